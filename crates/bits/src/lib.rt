@@ -1,0 +1,106 @@
+// Numbers read from bytes and written to them, most significant bit first.
+ghost use mathlib.Core.Path.{_≡_};
+ghost use Prim.Native.Nat.{_+_, _*_, _-_, _%_, _<_, _≤_};
+ghost use lib.ListN.{length, getD};
+ghost use Rattle.bits.specs.Field.{field, pack, splice, be, nines, Within};
+
+// A call asks only for the index, where a cast asks too that the byte fits.
+fn wide32(b: u8) -> u32
+    ensures { λ r. ⌜ (r ≡ b) × (r < 256) ⌝ }
+{
+    b as u32
+}
+
+fn wide16(b: u8) -> u16
+    ensures { λ r. ⌜ (r ≡ b) × (r < 256) ⌝ }
+{
+    b as u16
+}
+
+pub fn be16(s: &[u8], at: usize) -> u16
+    requires { ⌜ at + 2 ≤ length (now s) ⌝ }
+    ensures { λ r. ⌜ r ≡ field (8 * at) 16 (now (s .entry)) ⌝ }
+{
+    wide16(s[at]) * 256 + wide16(s[at + 1])
+}
+
+// By products and not by `|`: this compiles to one load and a byte swap.
+pub fn be32(s: &[u8], at: usize) -> u32
+    requires { ⌜ at + 4 ≤ length (now s) ⌝ }
+    ensures { λ r. ⌜ r ≡ field (8 * at) 32 (now (s .entry)) ⌝ }
+{
+    wide32(s[at]) * 16777216
+        + wide32(s[at + 1]) * 65536
+        + wide32(s[at + 2]) * 256
+        + wide32(s[at + 3])
+}
+
+// The k-th of sixteen nine-bit numbers from byte at on: it lies in two bytes.
+pub fn nine(s: &[u8], at: usize, k: usize) -> u16
+    requires { ⌜ (k < 16) × (at + 18 ≤ length (now s)) ⌝ }
+    ensures { λ r. ⌜ r ≡ field (8 * at + 9 * k) 9 (now (s .entry)) ⌝ }
+{
+    let b = at + k + k / 8;
+    (be16(s, b) >> (7 - k % 8)) % 512
+}
+
+pub fn put16(s: &mut [u8], at: usize, v: u16)
+    requires { ⌜ at + 2 ≤ length (now s) ⌝ }
+    ensures { λ _. ⌜ now (s .exit) ≡ splice at (be 2 v) (now (s .entry)) ⌝ }
+{
+    s[at] = (v / 256) as u8;
+    s[at + 1] = (v % 256) as u8;
+}
+
+pub fn put32(s: &mut [u8], at: usize, v: u32)
+    requires { ⌜ at + 4 ≤ length (now s) ⌝ }
+    ensures { λ _. ⌜ now (s .exit) ≡ splice at (be 4 v) (now (s .entry)) ⌝ }
+{
+    s[at] = (v / 16777216) as u8;
+    s[at + 1] = (v / 65536 % 256) as u8;
+    s[at + 2] = (v / 256 % 256) as u8;
+    s[at + 3] = (v % 256) as u8;
+}
+
+// Byte j of sixteen nine-bit numbers holds the last bits of a number that began before it ..
+fn ends(ids: &[u16], j: usize) -> u16
+    requires { ⌜ (j < 18) × Within nines (now ids) ⌝ }
+    ensures { λ r. ⌜ r ≡ field (8 * j) (j % 9) (pack nines (now (ids .entry))) ⌝ }
+{
+    let r = j % 9;
+    if r == 0 {
+        return 0;
+    }
+    let i = j - j / 9 - 1;
+    ids[i] % (1u16 << r)
+}
+
+// .. and the first bits of the next.
+fn begins(ids: &[u16], j: usize) -> u16
+    requires { ⌜ (j < 18) × Within nines (now ids) ⌝ }
+    ensures { λ r. ⌜ r ≡ field (8 * j + j % 9) (8 - j % 9) (pack nines (now (ids .entry))) ⌝ }
+{
+    let r = j % 9;
+    if r == 8 {
+        return 0;
+    }
+    let i = j - j / 9;
+    ids[i] >> (r + 1)
+}
+
+fn nines_byte(ids: &[u16], j: usize) -> u8
+    requires { ⌜ (j < 18) × Within nines (now ids) ⌝ }
+    ensures { λ r. ⌜ r ≡ getD (pack nines (now (ids .entry))) j 0 ⌝ }
+{
+    ((ends(ids, j) << (8 - j % 9)) + begins(ids, j)) as u8
+}
+
+// Each of the 18 bytes is written once; none is read back.
+pub fn put_nines(s: &mut [u8], at: usize, ids: &[u16])
+    requires { ⌜ (at + 18 ≤ length (now s)) × Within nines (now ids) ⌝ }
+    ensures { λ _. ⌜ now (s .exit) ≡ splice at (pack nines (now (ids .entry))) (now (s .entry)) ⌝ }
+{
+    for j in 0..18 {
+        s[at + j] = nines_byte(ids, j);
+    }
+}
