@@ -48,6 +48,18 @@ splice-same at k xs h =
     ∙ ap (λ (y : List ℕ). take at xs ++ (take k (drop at xs) ++ y)) (sym (drop-drop k at xs))
     ∙ ap (λ (y : List ℕ). take at xs ++ y) (take-append-drop k (drop at xs)) ∙ take-append-drop at xs
 
+-- what stands after it already
+pub splice-more : (at k : ℕ) (ys xs : List ℕ) → at + length ys + k ≤ length xs → splice at (ys ++ take k (drop (at + length ys) xs)) xs ≡ splice at ys xs
+unfolding splice
+splice-more at k ys xs h =
+    let q = drop (at + length ys) xs in
+    let l : length (take k q) ≡ k = length-take-le k q (omega (arith, length-drop (at + length ys) xs)) in
+    let e : at + length (ys ++ take k q) ≡ at + length ys + k = omega (arith, length-append ys (take k q)) in
+    let d : drop (at + length (ys ++ take k q)) xs ≡ drop k q = ap (λ (n : ℕ). drop n xs) e ∙ sym (drop-drop k (at + length ys) xs) in
+    ap (λ (l : List ℕ). take at xs ++ l)
+    (append-assoc ys (take k q) (drop (at + length (ys ++ take k q)) xs)
+    ∙ ap (λ (l : List ℕ). ys ++ l) (ap (λ (l : List ℕ). take k q ++ l) d ∙ take-append-drop k q))
+
 pub splice-all : (ys xs : List ℕ) → length ys ≡ length xs → splice 0 ys xs ≡ ys
 unfolding splice
 splice-all ys xs e = ap (λ (l : List ℕ). ys ++ l) (drop-of-length-le xs {i = 0 + length ys} (omega arith)) ∙ append-nil ys
@@ -102,7 +114,7 @@ pack-append ws ws' k k' {vs} {vs'} t t' r r' =
     ∙ ap (λ (m : ℕ). value (pack ws vs) * 2 ^ m + value (pack ws' vs')) e
     ∙ ap₂ (λ (m n : ℕ). m * 2 ^ total ws' + n) (value-pack ws k t vs r) (value-pack ws' k' t' vs' r')))
 
-pack-one : (w k n : ℕ) → w ≡ 8 * k → pack (w ∷ []) (n ∷ []) ≡ be k n
+pub pack-one : (w k n : ℕ) → w ≡ 8 * k → pack (w ∷ []) (n ∷ []) ≡ be k n
 unfolding pack
 pack-one w k n e =
     let a : (w + 0) / 8 ≡ k = omega arith in

@@ -1,6 +1,6 @@
 -- Numbers laid one after the other in bytes, most significant bit first, without gaps. A layout is the list of their widths in bits.
 use mathlib.Core.List.{List, [], _∷_, _++_}
-use Prim.Native.Nat.{ℕ, zero, suc, _+_, _-_, _*_, _/_, _%_, _^_, _<_}
+use Prim.Native.Nat.{ℕ, _+_, _-_, _*_, _/_, _%_, _^_, _<_}
 use lib.ListN.{length, getD, take, drop, replicate}
 
 -- the bits of a layout

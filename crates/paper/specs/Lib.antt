@@ -1,0 +1,13 @@
+pub mod Ids
+pub mod Lists
+pub mod Tables
+pub mod Sound
+pub mod Stores
+pub mod Steps
+pub mod Answers
+pub mod Requests
+pub mod Bytes
+pub mod Service
+pub mod Plain
+pub mod View
+pub mod Sessions
