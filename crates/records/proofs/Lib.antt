@@ -1,0 +1,7 @@
+pub mod Values
+pub mod Records
+pub mod Parts
+pub mod Tables
+pub mod Places
+pub mod Read
+pub mod Write
