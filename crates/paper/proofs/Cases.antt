@@ -50,6 +50,7 @@ cases =
     ∷ (first few ∷ failing 2 1 20 (read 1) ∷ failing 2 2 20 (read 1) ∷ failing 2 1 20 write ∷ failing 2 2 20 write ∷ at 20 (read 1) ∷ [])
     ∷ (first few ∷ at 20 (destroy 8 1) ∷ failing 2 1 20 (destroy 7 1) ∷ failing 2 2 20 (destroy 7 1) ∷ at 20 (read 1) ∷ at 20 (destroy 7 1) ∷ at 20 (read 1) ∷ [])
     ∷ (first few ∷ failing 1 1 100 Scavenge ∷ failing 1 2 100 Scavenge ∷ failing 2 1 100 Scavenge ∷ at 100 Scavenge ∷ [])
+    ∷ (first few ∷ at 10 (createA few 200) ∷ at 100 Scavenge ∷ at 100 (read 2) ∷ [])
     -- malformed calls
     ∷ (first few ∷ failing 18 3 9 (read 1) ∷ at 9 (Write 7 (fileId 1) (pageNum 0) (0 ∷ [])) ∷ at 9 (Read (fileId 1) (pageNum 0) (5 ∷ [])) ∷ record { now = 9; outcomes = replicate 17 0; request = Scavenge } ∷ [])
     ∷ []
@@ -72,6 +73,7 @@ given =
     ∷ ((0 ∷ 1 ∷ []) ∷ (9 ∷ 0 ∷ []) ∷ (10 ∷ 0 ∷ []) ∷ (9 ∷ 0 ∷ []) ∷ (10 ∷ 0 ∷ []) ∷ (0 ∷ 0x41 ∷ []) ∷ [])
     ∷ ((0 ∷ 1 ∷ []) ∷ (5 ∷ []) ∷ (9 ∷ []) ∷ (10 ∷ []) ∷ (0 ∷ 0x41 ∷ []) ∷ (0 ∷ []) ∷ (4 ∷ 0 ∷ []) ∷ [])
     ∷ ((0 ∷ 1 ∷ []) ∷ (9 ∷ 0 ∷ 0 ∷ []) ∷ (10 ∷ 0 ∷ 0 ∷ []) ∷ (9 ∷ 0 ∷ 0 ∷ []) ∷ (0 ∷ 0 ∷ 1 ∷ []) ∷ [])
+    ∷ ((0 ∷ 1 ∷ []) ∷ (0 ∷ 2 ∷ []) ∷ (0 ∷ 1 ∷ 1 ∷ []) ∷ (0 ∷ 0x41 ∷ []) ∷ [])
     ∷ ((0 ∷ 1 ∷ []) ∷ (1 ∷ 0 ∷ []) ∷ (1 ∷ 0 ∷ []) ∷ (1 ∷ 5 ∷ []) ∷ (1 ∷ 0 ∷ 0 ∷ []) ∷ [])
     ∷ []
 
@@ -82,20 +84,40 @@ pub cases-show : map (λ cs. rows cs (run few cs (fresh few))) cases ≡ given
 unfolding computing
 cases-show = refl
 
--- the last id is issued, and then none; with no header slot either it is NoSpace
-abbrev last : ℕ → Tables
-last headers = record {
-  hs = record { control = record { next = 2147483647; clock = 0 }; spare = 0; headers = replicate headers noHeader };
+-- with so many header slots and next id at n
+abbrev from : ℕ → ℕ → Tables
+from headers n = record {
+  hs = record { control = record { next = n; clock = 0 }; spare = 0; headers = replicate headers noHeader };
   ps = replicate 3 (noSlot few);
 }
 
+-- the last id is issued, and then none; with no header slot either it is NoSpace
 abbrev end : List Call
 end = first few ∷ at 10 create ∷ at 20 (Write 7 (fileId 2147483647) (pageNum 0) (pageB few)) ∷ at 20 (read 2147483647) ∷ []
 
-pub last-id : rows end (run few end (last 2)) ≡ (0 ∷ 2147483647 ∷ []) ∷ (8 ∷ 0 ∷ []) ∷ (8 ∷ 0 ∷ []) ∷ (0 ∷ 0x41 ∷ []) ∷ []
+pub last-id : rows end (run few end (from 2 2147483647)) ≡ (0 ∷ 2147483647 ∷ []) ∷ (8 ∷ 0 ∷ []) ∷ (8 ∷ 0 ∷ []) ∷ (0 ∷ 0x41 ∷ []) ∷ []
 unfolding computing
 last-id = refl
 
-pub no-space-first : rows end (run few end (last 1)) ≡ (0 ∷ 2147483647 ∷ []) ∷ (7 ∷ 0 ∷ []) ∷ (8 ∷ 0 ∷ []) ∷ (0 ∷ 0x41 ∷ []) ∷ []
+pub no-space-first : rows end (run few end (from 1 2147483647)) ≡ (0 ∷ 2147483647 ∷ []) ∷ (7 ∷ 0 ∷ []) ∷ (8 ∷ 0 ∷ []) ∷ (0 ∷ 0x41 ∷ []) ∷ []
 unfolding computing
 no-space-first = refl
+
+-- an expired header serves again
+abbrev again : List Call
+again = first few ∷ at 99 create ∷ at 100 (createA few 300) ∷ at 100 (read 2) ∷ []
+
+pub expired-serves : rows again (run few again (from 1 1)) ≡ (0 ∷ 1 ∷ []) ∷ (7 ∷ 0 ∷ []) ∷ (0 ∷ 2 ∷ []) ∷ (0 ∷ 0x41 ∷ []) ∷ []
+unfolding computing
+expired-serves = refl
+
+-- 1, 2 and 3 in that order: spare bits set, at a time below the clock
+abbrev damaged : Tables
+damaged = record { hs = record { control = record { next = 1; clock = 10 }; spare = 1; headers = [] }; ps = [] }
+
+abbrev order : List Call
+order = failing 18 3 9 (read 1) ∷ at 9 (read 1) ∷ []
+
+pub refusals-in-order : rows order (run few order damaged) ≡ (1 ∷ 0 ∷ []) ∷ (2 ∷ 0 ∷ []) ∷ []
+unfolding computing
+refusals-in-order = refl

@@ -108,3 +108,8 @@ five = true ∷ true ∷ true ∷ true ∷ false ∷ []
 pub these-damaged : map rules damaged ≡ replicate 3 one ++ (replicate 9 two ++ (replicate 4 three ++ (replicate 2 four ++ replicate 2 five)))
 unfolding computing
 these-damaged = refl
+
+-- a slot not in use holds no page, whatever expiry stands in it: S3 and S4
+pub slot-not-in-use : rules (tables 3 0 (among (lives (1 ∷ []))) (slot false 0 200 0 ∷ [])) ≡ true ∷ true ∷ false ∷ false ∷ true ∷ []
+unfolding computing
+slot-not-in-use = refl

@@ -2,6 +2,6 @@ pub mod Computing
 pub mod Sessions
 pub mod Marks
 pub mod Beside
-pub mod ByteSessions
+pub mod Bytes
 pub mod Damage
 pub mod Cases

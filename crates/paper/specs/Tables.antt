@@ -1,6 +1,6 @@
 -- What the two tables hold, as records, and the words that the rules use of them.
 use Prim.Native.Nat.{ℕ}
-use mathlib.Core.Bool.{Bool, false, not, _&&_}
+use mathlib.Core.Bool.{Bool, false, not, _&&_, _||_}
 use mathlib.Core.List.{List}
 use lib.ListN.{getD, replicate}
 use lib.Dec.{leb, ltb}
@@ -74,10 +74,10 @@ live now h = h .used && ltb now (h .expires)
 
 -- A header or page slot is free at now when it is not in use or its expires <= now.
 abbrev pub headerFree : ℕ → Header → Bool
-headerFree now h = not (h .used && ltb now (h .expires))
+headerFree now h = not (h .used) || leb (h .expires) now
 
 abbrev pub slotFree : ℕ → Slot → Bool
-slotFree now s = not (s .used && ltb now (s .expires))
+slotFree now s = not (s .used) || leb (s .expires) now
 
 abbrev pub clockOf : Tables → ℕ
 clockOf t = t .hs .control .clock

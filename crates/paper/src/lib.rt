@@ -3,7 +3,6 @@ ghost use mathlib.Core.Path.{_≡_};
 ghost use Prim.Native.Nat.{_<_};
 ghost use Rattle.paper.specs.Ids.{noMoreIds};
 ghost use Rattle.paper.specs.Stores.{issued};
-ghost use Rattle.paper.specs.Answers.{report};
 
 // 1 to 2,147,483,647; 0 is NullId.
 pub struct FileId(pub u32);
@@ -90,26 +89,4 @@ pub enum Answer {
     NoIds,
     ServiceError,
     Cut,
-}
-
-impl Answer {
-    pub fn number(self) -> u8
-        ensures { λ r. ⌜ r ≡ report self .number ⌝ }
-    {
-        match self {
-            Answer::Success(_) => 0,
-            Answer::Told(_) => 0,
-            Answer::Counted(_) => 0,
-            Answer::BadCall => 1,
-            Answer::Damaged => 2,
-            Answer::ClockBack => 3,
-            Answer::NoSuchFile => 4,
-            Answer::NotOwner => 5,
-            Answer::NoSuchPage => 6,
-            Answer::NoSpace => 7,
-            Answer::NoIds => 8,
-            Answer::ServiceError => 9,
-            Answer::Cut => 10,
-        }
-    }
 }

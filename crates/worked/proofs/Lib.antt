@@ -1,0 +1,2 @@
+pub mod ByteSessions
+pub mod SixtyFifth
