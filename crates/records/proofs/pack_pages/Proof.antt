@@ -2,6 +2,7 @@
 use mathlib.Core.Path.{sym, ap, _∙_, subst}
 use mathlib.Core.List.{List}
 use Prim.Native.Nat.{ℕ}
+use native.Mathlib.Omega.{arith}
 use denote.Ref.{now}
 use Rattle.bits.specs.Field.{pack, splice, nines, Within}
 use borrow.Author.Needs.{needs}
@@ -17,7 +18,7 @@ slice-aggregate-put-nines c = search needs
 put-nines-requires : tie.Need-put-nines-requires
 put-nines-requires c κs =
     let s = c .before .before .before .before in
-    (s .pre .0, subst (λ (l : List ℕ). Within nines l) (sym (c .before .before .numbers .ensures)) (s .pre .1))
+    (omega arith, subst (λ (l : List ℕ). Within nines l) (sym (c .before .before .numbers .ensures)) (s .pre .1))
 
 same-length : tie.Need-same-length
 same-length c = search needs
