@@ -156,7 +156,7 @@ replyOf lent (end n s) = record { report = refused n; page = lent; tables = s .t
 unfoldable pub carryOut : Bank → ℕ → List ℕ → Request → Tables → Reply
 carryOut b now os r t = replyOf (lentPage r) (stepsOf b now r os (record { taken = 0; past = false; tables = withClock now t }))
 
--- BadCall, but for the lengths of the tables: a wrong length, an outcome byte above 2, a page number above 15
+-- BadCall, but for the lengths of the tables: a page number above 15, a page of another length
 unfoldable pub pageFits : Bank → PageNum → List ℕ → Bool
 pageFits b number page = leb (number .0) 15 && eqb (length page) (b .size)
 
@@ -169,7 +169,7 @@ wellFormed b (Destroy client id) = true
 wellFormed b (SetExpiry client id expires) = true
 wellFormed b Scavenge = true
 
--- one page 120, outcome list 18
+-- an outcome list of 18 bytes, none above 2
 abbrev pub outcomesFit : List ℕ → Bool
 outcomesFit os = eqb (length os) 18 && all (λ o. leb o 2) os
 
