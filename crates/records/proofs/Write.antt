@@ -10,15 +10,16 @@ use lib.Seq.{length-take-le, take-length, take-add, drop-at}
 use borrow.Rule.Slice.PartMut.{putMid}
 use Rattle.bits.specs.Field.{pack, be, splice, nines, Bytes}
 use Rattle.bits.specs.Field.Within.{none, one}
-use Rattle.bits.proofs.Within.{within-tail}
+use Rattle.bits.proofs.Within.{within-head, within-tail}
 use Rattle.bits.proofs.Cover.{bytes-take}
 use Rattle.bits.proofs.Splice.{length-splice, splice-splice, splice-more, splice-all, splice-part, pack-append, pack-one, pack-be}
 use Rattle.paper.specs.declared.Control.{Control}
 use Rattle.paper.specs.declared.Header.{Header}
-use Rattle.paper.specs.Tables.{Slot}
-use Rattle.paper.specs.Bytes.{bit, idsOf, controlBytes, controlFrom, spareFrom, headerBytes, slotBytes}
+use Rattle.paper.specs.Tables.{Bank, Slot}
+use Rattle.paper.specs.Stores.{expiring}
+use Rattle.paper.specs.Bytes.{bit, idsOf, controlBytes, controlFrom, spareFrom, headerBytes, slotBytes, slotFrom}
 use Rattle.records.specs.Fits.{ControlFits, HeaderFits}
-use Rattle.records.proofs.Records.{control-fits, control-written}
+use Rattle.records.proofs.Records.{control-fits, control-written, slot-fits, slot-written}
 
 bit-lt : (b : Bool) → bit b < 2 ^ 1
 bit-lt true = omega arith
@@ -80,6 +81,17 @@ slot-over w e page xs ys last l p q =
     splice-part 8 (length ys - 8) last ys (ap length copied ∙ omega arith)
     ∙ ap₂ (splice 8) copied two ∙ splice-splice 0 8 words page xs (omega arith) (omega arith)
     ∙ splice-all (words ++ page) xs (omega arith)
+
+-- a slot with its second word written over
+pub slot-renewed : (e : ℕ) (xs : List ℕ) → e < 2 ^ 32 → Bytes xs → 8 ≤ length xs → splice 4 (be 4 e) xs ≡ slotBytes (expiring e (slotFrom xs))
+unfolding splice
+slot-renewed e xs f b h =
+    let bank : Bank = record { slots = 0; size = length xs - 8 } in
+    let s = slotFrom xs in
+    let fits = slot-fits bank xs b (omega arith) .values in
+    let old : xs ≡ be 4 (bit (s .used) * 2147483648 + s .spare) ++ (be 4 (s .expires) ++ s .contents) =
+    sym (slot-written bank xs b (omega arith)) ∙ slot-parts s (within-head (within-tail fits)) (within-head (within-tail (within-tail fits))) in
+    ap (splice 4 (be 4 e)) old ∙ sym (slot-parts (expiring e s) (within-head (within-tail fits)) f)
 
 -- next id and clock, then the spare bits
 pub control-parts : (c : Control) (spare : ℕ) → ControlFits c spare

@@ -9,6 +9,7 @@ use Rattle.paper.specs.declared.Header.{Header}
 use Rattle.paper.specs.Tables.{Bank, Slot, HS, PS, headerSlots}
 use Rattle.paper.specs.Bytes.{controlLayout, controlValues, headerLayout, headerValues, slotLayout, slotValues}
 use Rattle.records.specs.declared.SlotHead.{SlotHead}
+use Rattle.records.specs.declared.HeaderKey.{HeaderKey}
 
 abbrev pub ControlFits : Control → ℕ → Type 0
 ControlFits c spare = Within controlLayout (controlValues c spare)
@@ -40,3 +41,6 @@ headOf s = record { used = s .used; spare = s .spare; expires = s .expires }
 
 abbrev pub slotWith : SlotHead → List ℕ → Slot
 slotWith h page = record { used = h .used; spare = h .spare; expires = h .expires; contents = page }
+
+abbrev pub keyOf : Header → HeaderKey
+keyOf h = record { used = h .used; id = h .id; expires = h .expires }

@@ -1,11 +1,12 @@
 // Control, header and slot, read from a table's bytes and written to them in place.
 ghost use mathlib.Core.Path.{_≡_};
 ghost use Prim.Native.Nat.{_+_, _*_, _-_, _≤_, _<_};
-ghost use lib.ListN.{length, take, drop};
+ghost use lib.ListN.{length, take, drop, replicate};
+ghost use Rattle.paper.specs.Stores.{expiring};
 ghost use mathlib.Core.List.{_++_};
 ghost use Rattle.bits.specs.Field.{be, pack, splice, nines, Within};
 ghost use Rattle.paper.specs.Bytes.{controlFrom, spareFrom, controlBytes, headerFrom, headerBytes, slotFrom, slotBytes, idsOf, bit};
-ghost use Rattle.records.specs.Fits.{HeaderFits, headOf, slotWith};
+ghost use Rattle.records.specs.Fits.{HeaderFits, headOf, keyOf, slotWith};
 use paper::Control;
 use paper::FileId;
 use paper::Header;
@@ -197,4 +198,69 @@ pub fn put_slot(pages: &mut [u8], size: usize, n: usize, head: SlotHead, page: &
     let a = (n - 1) * (8 + size);
     let e = a + (8 + size);
     pack_slot(&mut pages[a..e], head, page);
+}
+
+fn renew(s: &mut [u8], expires: u32)
+    requires { ⌜ 8 ≤ length (now s) ⌝ }
+    ensures { λ _. ⌜ now (s .exit) ≡ slotBytes (expiring expires (slotFrom (now (s .entry)))) ⌝ }
+{
+    bits::put32(s, 4, expires);
+}
+
+// Slot n with another expiry.
+pub fn put_expires(pages: &mut [u8], size: usize, n: usize, expires: u32)
+    requires { ⌜ (1 ≤ n) × ((n - 1) * (8 + size) + (8 + size) ≤ length (now pages)) ⌝ }
+    ensures { λ _. ⌜ now (pages .exit) ≡ splice ((n - 1) * (8 + size)) (slotBytes (expiring expires (slotFrom (take (8 + size) (drop ((n - 1) * (8 + size)) (now (pages .entry))))))) (now (pages .entry)) ⌝ }
+{
+    let a = (n - 1) * (8 + size);
+    let e = a + (8 + size);
+    renew(&mut pages[a..e], expires);
+}
+
+fn zero(s: &mut [u8])
+    ensures { λ _. ⌜ now (s .exit) ≡ replicate (length (now (s .entry))) 0 ⌝ }
+{
+    let mut i = 0;
+    while i < s.len() {
+        s[i] = 0;
+        i += 1;
+    }
+}
+
+// Zeros over slot n.
+pub fn zero_slot(pages: &mut [u8], size: usize, n: usize)
+    requires { ⌜ (1 ≤ n) × ((n - 1) * (8 + size) + (8 + size) ≤ length (now pages)) ⌝ }
+    ensures { λ _. ⌜ now (pages .exit) ≡ splice ((n - 1) * (8 + size)) (replicate (8 + size) 0) (now (pages .entry)) ⌝ }
+{
+    let a = (n - 1) * (8 + size);
+    let e = a + (8 + size);
+    zero(&mut pages[a..e]);
+}
+
+// What a search looks at, without unpacking the page ids.
+pub struct HeaderKey {
+    pub used: bool,
+    pub id: FileId,
+    pub expires: u32,
+}
+
+fn unpack_key(r: &[u8]) -> HeaderKey
+    requires { ⌜ length (now r) ≡ 36 ⌝ }
+    ensures { λ k. ⌜ k ≡ keyOf (headerFrom (now (r .entry))) ⌝ }
+{
+    let word = bits::be32(r, 0);
+    HeaderKey {
+        used: word / 2147483648 == 1,
+        id: FileId(word % 2147483648),
+        expires: bits::be32(r, 14),
+    }
+}
+
+pub fn header_key(headers: &[u8], n: usize) -> HeaderKey
+    requires { ⌜ n * 36 + 36 ≤ length (now headers) ⌝ }
+    ensures { λ r. ⌜ r ≡ keyOf (headerFrom (take 36 (drop (n * 36) (now (headers .entry))))) ⌝ }
+{
+    let a = n * 36;
+    let e = a + 36;
+    unpack_key(&headers[a..e])
 }
