@@ -1,0 +1,204 @@
+-- The header table as the Header Store's functions meet it: what a search reads of a slot, how many slots there are, what a store step writes, and the sweep of the slots.
+-- Assumes nothing.
+use Prim.Native.Nat.{ℕ, _+_, _-_, _*_, _^_, _≤_, _<_}
+use mathlib.Core.Path.{_≡_, refl, sym, ap, ap₂, _∙_}
+use mathlib.Core.Bool.{Bool, true, false, not, _&&_, _||_}
+use mathlib.Core.List.{List}
+use native.Mathlib.Omega.{arith}
+use borrow.Author.Tests.{lt-ltb, le-ltb}
+use lib.Dec.{leb, ltb, eqb}
+use lib.ListN.{length, take, drop, length-map}
+use Rattle.paper.specs.declared.FileId.{FileId}
+use Rattle.paper.specs.declared.Header.{Header}
+use Rattle.paper.specs.declared.Control.{Control}
+use Rattle.paper.specs.declared.Issued.{Issued}
+use Rattle.paper.specs.declared.Found.{Found}
+use Rattle.paper.specs.declared.Found.the-variants.{At, Nothing}
+use Rattle.paper.specs.Ids.{noMoreIds}
+use Rattle.paper.specs.Lists.{lowest}
+use Rattle.paper.specs.Tables.{HS, headerSlots, headerAt, headerFree, headerExpired, noHeader, putHeader, withControl, withHeaders}
+use Rattle.paper.specs.Stores.{gone, no, issued, named, hasId, readHeader, createHeader, replaceHeader, destroyHeader, scavengeHeaders}
+use Rattle.paper.specs.Bytes.{recordSize, headersLength, headerLayout, headerValues, controlBytes, controlFrom, spareFrom, headerBytes, headerFrom, parts, hsFrom}
+use Rattle.bits.specs.Field.{splice}
+use Rattle.bits.specs.Field.Within.{one}
+use Rattle.bits.proofs.Within.{within-test}
+use Rattle.records.specs.declared.HeaderKey.{HeaderKey}
+use Rattle.records.specs.Fits.{ControlFits, HeaderFits, keyOf}
+use Rattle.records.proofs.Records.{control-fits}
+use Rattle.records.proofs.Parts.{length-parts}
+use Rattle.records.proofs.Places.{control-place, control-put, header-place, header-put}
+use Rattle.stores.proofs.Search.{from, passes as finds, fails as misses, none-left, lowest-within}
+use Rattle.stores.proofs.Sweep.{Swept, starts, met-few, ends-list, ends-met, passes, fails}
+
+-- there are 64 slots, whatever the bytes
+pub slots : (xs : List ℕ) → length (hsFrom xs .headers) ≡ headerSlots
+unfolding hsFrom
+slots xs =
+    let ps = parts recordSize headerSlots (drop recordSize xs) in
+    length-map ps headerFrom ∙ length-parts recordSize headerSlots (drop recordSize xs)
+
+-- a slot's key answers what a search asks of its header
+module _ (xs : List ℕ) (n : ℕ) (k : HeaderKey) (t : ℕ) (lo : 1 ≤ n) (hi : n ≤ headerSlots) (e : k ≡ keyOf (headerFrom (take 36 (drop (n * 36) xs)))) where
+  key-at : k ≡ keyOf (headerAt (hsFrom xs) n)
+  key-at = e ∙ ap keyOf (sym (header-place xs n lo hi))
+
+  key-free : not (k .used) || leb (k .expires) t ≡ headerFree t (headerAt (hsFrom xs) n)
+  key-free = ap (λ (q : HeaderKey). not (q .used) || leb (q .expires) t) key-at
+
+  pub used-free : k .used ≡ true → leb (k .expires) t ≡ headerFree t (headerAt (hsFrom xs) n)
+  used-free u = ap (λ (b : Bool). not b || leb (k .expires) t) (sym u) ∙ key-free
+
+  pub unused-free : k .used ≡ false → true ≡ headerFree t (headerAt (hsFrom xs) n)
+  unused-free u = ap (λ (b : Bool). not b || leb (k .expires) t) (sym u) ∙ key-free
+
+  key-expired : k .used && leb (k .expires) t ≡ headerExpired t (headerAt (hsFrom xs) n)
+  key-expired = ap (λ (q : HeaderKey). q .used && leb (q .expires) t) key-at
+
+  pub used-expired : k .used ≡ true → leb (k .expires) t ≡ headerExpired t (headerAt (hsFrom xs) n)
+  used-expired u = ap (λ (b : Bool). b && leb (k .expires) t) (sym u) ∙ key-expired
+
+  pub unused-expired : k .used ≡ false → false ≡ headerExpired t (headerAt (hsFrom xs) n)
+  unused-expired u = ap (λ (b : Bool). b && leb (k .expires) t) (sym u) ∙ key-expired
+
+  module _ (id : FileId) where
+    key-has : (k .used && ltb t (k .expires)) && eqb (k .id .0) (id .0) ≡ hasId t id (headerAt (hsFrom xs) n)
+    key-has = ap (λ (q : HeaderKey). (q .used && ltb t (q .expires)) && eqb (q .id .0) (id .0)) key-at
+
+    pub live-has : k .used ≡ true → t < k .expires → eqb (k .id .0) (id .0) ≡ hasId t id (headerAt (hsFrom xs) n)
+    live-has u l = ap₂ (λ (a b : Bool). (a && b) && eqb (k .id .0) (id .0)) (sym u) (sym (lt-ltb t (k .expires) l)) ∙ key-has
+
+    pub expired-has-not : k .used ≡ true → k .expires ≤ t → false ≡ hasId t id (headerAt (hsFrom xs) n)
+    expired-has-not u l = ap₂ (λ (a b : Bool). (a && b) && eqb (k .id .0) (id .0)) (sym u) (sym (le-ltb t (k .expires) l)) ∙ key-has
+
+    pub unused-has-not : k .used ≡ false → false ≡ hasId t id (headerAt (hsFrom xs) n)
+    unused-has-not u = ap (λ (b : Bool). (b && ltb t (k .expires)) && eqb (k .id .0) (id .0)) (sym u) ∙ key-has
+
+-- a search of the slots as it stands at number n, its turns, its end, and that what it finds is a slot
+module _ (f : Header → Bool) (xs : List ℕ) where
+  abbrev pub slotsFrom : ℕ → Found
+  slotsFrom = from f noHeader (hsFrom xs .headers)
+
+  pub slot-passes : (n : ℕ) → 1 ≤ n → n ≤ headerSlots → f (headerAt (hsFrom xs) n) ≡ true → slotsFrom n ≡ At n
+  slot-passes n lo hi e = finds f noHeader (hsFrom xs .headers) n lo (omega (arith, slots xs)) e
+
+  pub slot-fails : (n : ℕ) → 1 ≤ n → n ≤ headerSlots → f (headerAt (hsFrom xs) n) ≡ false → slotsFrom n ≡ slotsFrom (n + 1)
+  slot-fails n lo hi e = misses f noHeader (hsFrom xs .headers) n lo (omega (arith, slots xs)) e
+
+  pub slots-end : (n : ℕ) → headerSlots < n → slotsFrom n ≡ Nothing
+  slots-end n h = none-left f noHeader (hsFrom xs .headers) n (omega (arith, slots xs))
+
+  pub found-slot : (n : ℕ) → lowest f (hsFrom xs .headers) ≡ At n → (1 ≤ n) × (n ≤ headerSlots)
+  found-slot n e = let i = lowest-within f n (hsFrom xs .headers) e in (i .0, omega (arith, slots xs))
+
+-- a read and a create by what the search found
+module _ (t : ℕ) (s : HS) where
+  module _ (id : FileId) where
+    pub read-none : lowest (hasId t id) (s .headers) ≡ Nothing → readHeader t id s ≡ no 4
+    unfolding readHeader
+    read-none e = rw (e, readHeader)
+
+    pub read-at : (n : ℕ) → lowest (hasId t id) (s .headers) ≡ At n → readHeader t id s ≡ gone n s
+    unfolding readHeader
+    read-at n e = rw (e, readHeader)
+
+  module _ (h : Header) where
+    pub create-none : lowest (headerFree t) (s .headers) ≡ Nothing → createHeader t h s ≡ no 7
+    unfolding createHeader
+    create-none e = rw (e, createHeader)
+
+    pub create-at : (n : ℕ) → lowest (headerFree t) (s .headers) ≡ At n → createHeader t h s ≡ replaceHeader n h s
+    unfolding createHeader
+    create-at n e = rw (e, createHeader)
+
+pub zeros-fit : HeaderFits noHeader
+zeros-fit = within-test headerLayout (headerValues noHeader) tt
+
+-- zeros put over slot n
+pub zeros-put : (xs ys : List ℕ) (n : ℕ) (h : Header) → length xs ≡ headersLength → 1 ≤ n → n ≤ headerSlots → h ≡ noHeader → ys ≡ splice (n * 36) (headerBytes h) xs
+    → hsFrom ys ≡ putHeader n noHeader (hsFrom xs)
+zeros-put xs ys n h l lo hi eh ey = ap hsFrom (ey ∙ ap (λ (g : Header). splice (n * 36) (headerBytes g) xs) eh) ∙ header-put xs l n lo hi noHeader zeros-fit
+
+pub destroyed : (xs ys : List ℕ) (n : ℕ) (h : Header) → length xs ≡ headersLength → 1 ≤ n → n ≤ headerSlots → h ≡ noHeader → ys ≡ splice (n * 36) (headerBytes h) xs
+    → destroyHeader n (hsFrom xs) ≡ gone n (hsFrom ys)
+unfolding destroyHeader
+destroyed xs ys n h l lo hi eh ey = ap (gone n) (sym (zeros-put xs ys n h l lo hi eh ey))
+
+-- the sweep of the headers that xs holds has come to number n: the table is ys, all else in it as it was, and m were expired
+pub record SweptHeaders (time : ℕ) (xs : List ℕ) (n : ℕ) (ys : List ℕ) (m : ℕ) : Type 0 where
+  pub rest : hsFrom ys ≡ withHeaders (hsFrom ys .headers) (hsFrom xs)
+  pub swept : Swept (headerExpired time) noHeader (hsFrom xs .headers) n (hsFrom ys .headers) m
+
+module _ (time : ℕ) (xs : List ℕ) where
+  pub sweep-starts : SweptHeaders time xs 1 xs 0
+  sweep-starts = record { rest = refl; swept = starts (headerExpired time) noHeader (hsFrom xs .headers) }
+
+  module _ (n : ℕ) (ys : List ℕ) (m : ℕ) (i : SweptHeaders time xs n ys m) where
+    pub few-swept : m ≤ n - 1
+    few-swept = met-few (i .swept)
+
+    pub swept-headers : headerSlots < n → gone m (hsFrom ys) ≡ scavengeHeaders time (hsFrom xs)
+    unfolding scavengeHeaders
+    swept-headers h =
+        let past : length (hsFrom xs .headers) < n = omega (arith, slots xs) in
+        ap₂ gone (ends-met (i .swept) past)
+        (i .rest ∙ ap (λ (l : List Header). withHeaders l (hsFrom xs)) (ends-list (i .swept) past))
+
+    module _ (lo : 1 ≤ n) (hi : n ≤ headerSlots) where
+      pub sweep-passes : (zs : List ℕ) (h : Header) → length ys ≡ headersLength → h ≡ noHeader → zs ≡ splice (n * 36) (headerBytes h) ys → headerExpired time (headerAt (hsFrom ys) n) ≡ true
+          → SweptHeaders time xs (n + 1) zs (m + 1)
+      sweep-passes zs h l eh ez e =
+          let put : hsFrom zs ≡ putHeader n noHeader (hsFrom ys) = zeros-put ys zs n h l lo hi eh ez in
+          record {
+            rest = rw put (ap (putHeader n noHeader) (i .rest));
+            swept = rw put (passes (i .swept) lo (omega (arith, slots xs)) e);
+          }
+
+      pub sweep-fails : headerExpired time (headerAt (hsFrom ys) n) ≡ false → SweptHeaders time xs (n + 1) ys m
+      sweep-fails e = record {
+        rest = i .rest;
+        swept = fails (i .swept) lo (omega (arith, slots xs)) e;
+      }
+
+pub named-fits : (id : FileId) (h : Header) → HeaderFits h → id .0 < noMoreIds → HeaderFits (named id h)
+named-fits id h (one u (one i r)) l = let z : id .0 < 2 ^ 31 = omega arith in one u (one z r)
+
+issued-fits : (c : Control) (spare : ℕ) → ControlFits c spare → c .next < noMoreIds → ControlFits (issued c .control) spare
+issued-fits c spare (one n r) l = let z : c .next + 1 < 2 ^ 32 = omega arith in one z r
+
+pub issued-below : (c : Control) (i : Issued) → i ≡ issued c → c .next < noMoreIds → i .id .0 < noMoreIds
+issued-below c i e l = let z : i .id .0 ≡ c .next = rw e in omega arith
+
+hs-control : (xs : List ℕ) → ControlFits (hsFrom xs .control) (hsFrom xs .spare)
+unfolding hsFrom
+hs-control xs = control-fits (take recordSize xs)
+
+-- the control record that a store step read, and what it issued of it
+module _ (xs : List ℕ) (n : ℕ) (h : Header) (c : Control) (e : c ≡ controlFrom (take 36 xs)) where
+  same : c ≡ hsFrom xs .control
+  same = e ∙ control-place xs
+
+  pub no-ids : noMoreIds ≤ c .next → replaceHeader n h (hsFrom xs) ≡ no 8
+  unfolding replaceHeader
+  no-ids l =
+      let next : ltb (hsFrom xs .control .next) noMoreIds ≡ false = rw (← same) (le-ltb (c .next) noMoreIds l) in
+      rw next
+
+  -- the issued control written first, the header under its new id into slot n after it
+  module _ (i : Issued) (ei : i ≡ issued c) (l : length xs ≡ headersLength) (lo : 1 ≤ n) (hi : n ≤ headerSlots) (f : HeaderFits h) (room : c .next < noMoreIds) where
+    control-then : (ys : List ℕ) → ys ≡ splice 0 (controlBytes (i .control) (spareFrom (take 36 xs))) xs → hsFrom ys ≡ withControl (i .control) (hsFrom xs)
+    control-then ys ey =
+        let fits : ControlFits (i .control) (hsFrom xs .spare) = rw ei (issued-fits c (hsFrom xs .spare) (rw same (hs-control xs)) room) in
+        ap hsFrom ey ∙ control-put xs (i .control) fits
+
+    stored : (ys zs : List ℕ) → ys ≡ splice 0 (controlBytes (i .control) (spareFrom (take 36 xs))) xs → length ys ≡ length xs
+        → zs ≡ splice (n * 36) (headerBytes (named (i .id) h)) ys → hsFrom zs ≡ putHeader n (named (i .id) h) (withControl (i .control) (hsFrom xs))
+    stored ys zs ey ly ez =
+        ap hsFrom ez ∙ header-put ys (ly ∙ l) n lo hi (named (i .id) h) (named-fits (i .id) h f (issued-below c i ei room)) ∙ ap (putHeader n (named (i .id) h)) (control-then ys ey)
+
+    pub replaced : (ys zs : List ℕ) → ys ≡ splice 0 (controlBytes (i .control) (spareFrom (take 36 xs))) xs → length ys ≡ length xs
+        → zs ≡ splice (n * 36) (headerBytes (named (i .id) h)) ys → replaceHeader n h (hsFrom xs) ≡ gone (i .id .0) (hsFrom zs)
+    unfolding replaceHeader
+    replaced ys zs ey ly ez =
+        let next : ltb (hsFrom xs .control .next) noMoreIds ≡ true = rw (← same) (lt-ltb (c .next) noMoreIds room) in
+        let is : issued (hsFrom xs .control) ≡ i = sym (ei ∙ ap issued same) in
+        rw next (ap (λ (q : Issued). gone (q .id .0) (putHeader n (named (q .id) h) (withControl (q .control) (hsFrom xs)))) is ∙ ap (gone (i .id .0)) (sym (stored ys zs ey ly ez)))

@@ -1,0 +1,5 @@
+pub mod Search
+pub mod Sweep
+pub mod Outcomes
+pub mod Slots
+pub mod HeaderSlots
