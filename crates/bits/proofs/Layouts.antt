@@ -48,10 +48,6 @@ pub unpack-within : (ws xs : List ℕ) → Within ws (unpack ws xs)
 unfolding unpack
 unpack-within ws xs = cut-within ws _
 
-pub length-unpack : (ws xs : List ℕ) → length (unpack ws xs) ≡ length ws
-unfolding unpack
-length-unpack ws xs = length-cut ws _
-
 module _ (ws : List ℕ) (k : ℕ) (whole : total ws ≡ 8 * k) where
   pub length-pack : (vs : List ℕ) → length (pack ws vs) ≡ k
   unfolding pack

@@ -7,13 +7,13 @@ use native.Mathlib.Nat.{add-assoc, zero-mul}
 use native.Mathlib.Numerals.{towards-suc}
 use native.Mathlib.Omega.{arith}
 use lib.ListN.{length, take, drop, set, length-append, length-take, length-drop, take-append-drop, drop-of-length-le}
-use lib.Seq.{length-take-le, take-at, drop-at, take-append-seam, drop-append-add, drop-drop, sets, sets-eq, paste, take-length}
-use Rattle.bits.specs.Field.{total, join, be, value, pack, Within, Bytes, splice}
+use lib.Seq.{length-take-le, take-at, drop-append-add, drop-drop, sets, sets-eq, paste, take-length}
+use Rattle.bits.specs.Field.{total, join, be, value, pack, Within, splice}
 use Rattle.bits.specs.Field.Within.{none, one}
 use Rattle.bits.proofs.Numbers.{join-acc, join-append, total-append}
 use Rattle.bits.proofs.Within.{within-append}
 use Rattle.bits.proofs.Layouts.{value-same, value-pack, pack-bytes, length-pack}
-use Rattle.bits.proofs.Cover.{value-append, bytes-take, bytes-drop, bytes-append}
+use Rattle.bits.proofs.Cover.{value-append, bytes-append}
 
 module _ (at : ℕ) (ys xs : List ℕ) (fits : at + length ys ≤ length xs) where
   pub length-splice : length (splice at ys xs) ≡ length xs
@@ -27,26 +27,6 @@ module _ (at : ℕ) (ys xs : List ℕ) (fits : at + length ys ≤ length xs) whe
   pub paste-splice : paste xs at ys (length ys) ≡ splice at ys xs
   unfolding splice
   paste-splice = rw take-length (append-assoc (take at xs) ys (drop (at + length ys) xs))
-
-  pub take-drop-splice : take (length ys) (drop at (splice at ys xs)) ≡ ys
-  unfolding splice
-  take-drop-splice =
-      let d = drop (at + length ys) xs in
-      ap (take (length ys)) (drop-at (take at xs) (ys ++ d) at (length-take-le at xs (omega arith))) ∙ take-append-seam ys d
-
-pub bytes-splice : (at : ℕ) (ys xs : List ℕ) → Bytes ys → Bytes xs → Bytes (splice at ys xs)
-unfolding splice
-bytes-splice at ys xs by bx =
-    let d = drop (at + length ys) xs in
-    bytes-append (take at xs) (ys ++ d) (bytes-take at xs bx) (bytes-append ys d by (bytes-drop (at + length ys) xs bx))
-
-pub splice-same : (at k : ℕ) (xs : List ℕ) → at + k ≤ length xs → splice at (take k (drop at xs)) xs ≡ xs
-unfolding splice
-splice-same at k xs h =
-    let l : length (take k (drop at xs)) ≡ k = length-take-le k (drop at xs) (omega (arith, length-drop at xs)) in
-    ap (λ (n : ℕ). take at xs ++ (take k (drop at xs) ++ drop (at + n) xs)) l
-    ∙ ap (λ (y : List ℕ). take at xs ++ (take k (drop at xs) ++ y)) (sym (drop-drop k at xs))
-    ∙ ap (λ (y : List ℕ). take at xs ++ y) (take-append-drop k (drop at xs)) ∙ take-append-drop at xs
 
 -- what stands after it already
 pub splice-more : (at k : ℕ) (ys xs : List ℕ) → at + length ys + k ≤ length xs → splice at (ys ++ take k (drop (at + length ys) xs)) xs ≡ splice at ys xs

@@ -7,8 +7,8 @@ use native.Mathlib.Omega.{arith}
 use lib.ListN.{length, take, drop, length-append, length-drop, take-append-drop}
 use lib.Seq.{length-take-le, take-at, drop-at}
 use Rattle.bits.specs.Field.{total, pack, unpack, Within, Bytes}
-use Rattle.bits.proofs.Layouts.{pack-bytes, unpack-within, length-pack, unpack-pack, pack-unpack}
-use Rattle.bits.proofs.Cover.{bytes-take, bytes-drop, bytes-append}
+use Rattle.bits.proofs.Layouts.{unpack-within, length-pack, unpack-pack, pack-unpack}
+use Rattle.bits.proofs.Cover.{bytes-take, bytes-drop}
 use Rattle.paper.specs.declared.Control.{Control}
 use Rattle.paper.specs.declared.Header.{Header}
 use Rattle.paper.specs.Tables.{Bank, Slot}
@@ -48,10 +48,6 @@ pub control-length : (c : Control) (spare : ℕ) → length (controlBytes c spar
 unfolding controlBytes
 control-length c spare = length-pack controlLayout 36 refl (controlValues c spare)
 
-pub control-bytes : (c : Control) (spare : ℕ) → Bytes (controlBytes c spare)
-unfolding controlBytes
-control-bytes c spare = pack-bytes controlLayout (controlValues c spare)
-
 -- the header record
 
 pub header-read : (h : Header) → HeaderFits h → headerFrom (headerBytes h) ≡ h
@@ -72,10 +68,6 @@ header-fits = fits-again headerLayout values-of-header
 pub header-length : (h : Header) → length (headerBytes h) ≡ 36
 unfolding headerBytes
 header-length h = length-pack headerLayout 36 refl (headerValues h)
-
-pub header-bytes : (h : Header) → Bytes (headerBytes h)
-unfolding headerBytes
-header-bytes h = pack-bytes headerLayout (headerValues h)
 
 -- the page slot
 
@@ -114,7 +106,3 @@ slot-long s = simp length-append (omega (arith, head-length s))
 
 pub slot-length : (b : Bank) (s : Slot) → SlotFits b s → length (slotBytes s) ≡ slotSize b
 slot-length b s f = omega (arith, slot-long s, f .size)
-
-pub slot-bytes : (b : Bank) (s : Slot) → SlotFits b s → Bytes (slotBytes s)
-unfolding slotBytes
-slot-bytes b s f = bytes-append (pack slotLayout (slotValues s)) (s .contents) (pack-bytes slotLayout (slotValues s)) (f .contents)
