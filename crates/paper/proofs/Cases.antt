@@ -5,7 +5,7 @@ use mathlib.Core.List.{List, [], _∷_, map, zipWith}
 use lib.ListN.{replicate}
 use Rattle.paper.specs.Ids.{fileId, pageNum}
 use Rattle.paper.specs.Tables.{Bank, Tables, noHeader, noSlot, fresh}
-use Rattle.paper.specs.Answers.{Request, Write, Read, Info, Destroy, Scavenge}
+use Rattle.paper.specs.Answers.{Request, Create, Write, Read, Info, Destroy, SetExpiry, Scavenge}
 use Rattle.paper.specs.Requests.{Reply}
 use Rattle.paper.specs.Sessions.{Call, at, failing, first, pageB, createA, writeB, readOf, setExpiryTo, run, shows}
 use Rattle.paper.proofs.Computing.{computing}
@@ -51,7 +51,10 @@ cases =
     ∷ (first few ∷ at 20 (destroy 8 1) ∷ failing 2 1 20 (destroy 7 1) ∷ failing 2 2 20 (destroy 7 1) ∷ at 20 (read 1) ∷ at 20 (destroy 7 1) ∷ at 20 (read 1) ∷ [])
     ∷ (first few ∷ failing 1 1 100 Scavenge ∷ failing 1 2 100 Scavenge ∷ failing 2 1 100 Scavenge ∷ at 100 Scavenge ∷ [])
     ∷ (first few ∷ at 10 (createA few 200) ∷ at 100 Scavenge ∷ at 100 (read 2) ∷ [])
+    -- only the owner sets the expiry
+    ∷ (first few ∷ at 20 (SetExpiry 8 (fileId 1) 200) ∷ at 20 (SetExpiry 8 (fileId 1) 50) ∷ at 99 (read 1) ∷ [])
     -- malformed calls
+    ∷ (at 9 (Create 7 (pageNum 16) (pageB few) 100) ∷ at 9 (Create 7 (pageNum 0) (0 ∷ []) 100) ∷ at 9 (Write 7 (fileId 1) (pageNum 16) (pageB few)) ∷ [])
     ∷ (first few ∷ failing 18 3 9 (read 1) ∷ at 9 (Write 7 (fileId 1) (pageNum 0) (0 ∷ [])) ∷ at 9 (Read (fileId 1) (pageNum 0) (5 ∷ [])) ∷ record { now = 9; outcomes = replicate 17 0; request = Scavenge } ∷ [])
     ∷ []
 
@@ -74,6 +77,8 @@ given =
     ∷ ((0 ∷ 1 ∷ []) ∷ (5 ∷ []) ∷ (9 ∷ []) ∷ (10 ∷ []) ∷ (0 ∷ 0x41 ∷ []) ∷ (0 ∷ []) ∷ (4 ∷ 0 ∷ []) ∷ [])
     ∷ ((0 ∷ 1 ∷ []) ∷ (9 ∷ 0 ∷ 0 ∷ []) ∷ (10 ∷ 0 ∷ 0 ∷ []) ∷ (9 ∷ 0 ∷ 0 ∷ []) ∷ (0 ∷ 0 ∷ 1 ∷ []) ∷ [])
     ∷ ((0 ∷ 1 ∷ []) ∷ (0 ∷ 2 ∷ []) ∷ (0 ∷ 1 ∷ 1 ∷ []) ∷ (0 ∷ 0x41 ∷ []) ∷ [])
+    ∷ ((0 ∷ 1 ∷ []) ∷ (5 ∷ 0 ∷ []) ∷ (5 ∷ 0 ∷ []) ∷ (0 ∷ 0x41 ∷ []) ∷ [])
+    ∷ ((1 ∷ 0 ∷ []) ∷ (1 ∷ 0 ∷ []) ∷ (1 ∷ 0 ∷ []) ∷ [])
     ∷ ((0 ∷ 1 ∷ []) ∷ (1 ∷ 0 ∷ []) ∷ (1 ∷ 0 ∷ []) ∷ (1 ∷ 5 ∷ []) ∷ (1 ∷ 0 ∷ 0 ∷ []) ∷ [])
     ∷ []
 

@@ -25,8 +25,16 @@ header id created updated expires ps = record {
   pages = take 16 (map pageId ps ++ noPages);
 }
 
-abbrev unused : ℕ → List ℕ → Header
-unused id ps = record { used = false; id = fileId id; owner = 0; created = 0; updated = 0; expires = 0; pages = take 16 (map pageId ps ++ noPages) }
+abbrev unused : ℕ → ℕ → ℕ → ℕ → ℕ → List ℕ → Header
+unused id owner created updated expires ps = record {
+  used = false;
+  id = fileId id;
+  owner = owner;
+  created = created;
+  updated = updated;
+  expires = expires;
+  pages = take 16 (map pageId ps ++ noPages);
+}
 
 abbrev slot : Bool → ℕ → ℕ → ℕ → Slot
 slot used spare expires byte = record { used = used; spare = spare; expires = expires; contents = 0 ∷ byte ∷ [] }
@@ -67,8 +75,12 @@ damaged =
     tables 0 0 (noHeader ∷ []) slots
     ∷ tables 2147483649 0 (among (lives (1 ∷ []))) slots
     ∷ tables 3 1 (among (lives (1 ∷ []))) slots
-    ∷ tables 3 0 (unused 1 [] ∷ expired ∷ []) slots
-    ∷ tables 3 0 (unused 0 (1 ∷ []) ∷ expired ∷ []) slots
+    ∷ tables 3 0 (unused 1 0 0 0 0 [] ∷ expired ∷ []) slots
+    ∷ tables 3 0 (unused 0 1 0 0 0 [] ∷ expired ∷ []) slots
+    ∷ tables 3 0 (unused 0 0 1 0 0 [] ∷ expired ∷ []) slots
+    ∷ tables 3 0 (unused 0 0 0 1 0 [] ∷ expired ∷ []) slots
+    ∷ tables 3 0 (unused 0 0 0 0 1 [] ∷ expired ∷ []) slots
+    ∷ tables 3 0 (unused 0 0 0 0 0 (1 ∷ []) ∷ expired ∷ []) slots
     ∷ tables 3 0 (header 0 10 20 100 [] ∷ expired ∷ []) slots
     ∷ tables 2 0 (among (lives (1 ∷ []))) slots
     ∷ tables 3 0 (expired ∷ expired ∷ []) slots
@@ -105,7 +117,7 @@ four = true ∷ true ∷ true ∷ false ∷ true ∷ []
 abbrev five : List Bool
 five = true ∷ true ∷ true ∷ true ∷ false ∷ []
 
-pub these-damaged : map rules damaged ≡ replicate 3 one ++ (replicate 9 two ++ (replicate 4 three ++ (replicate 2 four ++ replicate 2 five)))
+pub these-damaged : map rules damaged ≡ replicate 3 one ++ (replicate 13 two ++ (replicate 4 three ++ (replicate 2 four ++ replicate 2 five)))
 unfolding computing
 these-damaged = refl
 

@@ -1,5 +1,6 @@
 -- `create_header` stores the header in the lowest free slot, where its outcome lets it.
 use mathlib.Core.Path.{_≡_, sym, _∙_}
+use native.Mathlib.Omega.{arith}
 use denote.Ref.{now}
 use Rattle.paper.specs.declared.Found.the-variants.{At}
 use Rattle.paper.specs.Lists.{lowest}
@@ -39,7 +40,7 @@ store-header-requires : tie.Need-store-header-requires
 store-header-requires c κs =
     let i = found-slot _ _ _ (found (c .before)) in
     let s = start (c .before) in
-    (s .pre .0, i .0, i .1, s .pre .1)
+    (s .pre .0, omega arith, omega arith, s .pre .1)
 
 same-length-2 : tie.Need-same-length-2
 same-length-2 c = search needs
