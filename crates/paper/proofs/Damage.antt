@@ -99,7 +99,7 @@ damaged =
     ∷ []
 
 abbrev rules : Tables → List Bool
-rules t = S1 t ∷ S2 few t ∷ S3 t ∷ S4 few t ∷ S5 t ∷ []
+rules t = S1 (t .hs) ∷ S2 few (t .hs) ∷ S3 (t .ps) ∷ S4 few t ∷ S5 (t .hs) ∷ []
 
 -- only the first rule fails, only the second ..
 abbrev one : List Bool
