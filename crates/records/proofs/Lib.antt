@@ -5,3 +5,4 @@ pub mod Tables
 pub mod Places
 pub mod Read
 pub mod Write
+pub mod Zeros

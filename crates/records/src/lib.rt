@@ -217,7 +217,8 @@ pub fn put_expires(pages: &mut [u8], size: usize, n: usize, expires: u32)
     renew(&mut pages[a..e], expires);
 }
 
-fn zero(s: &mut [u8])
+// Zeros over all of it.
+pub fn zero(s: &mut [u8])
     ensures { λ _. ⌜ now (s .exit) ≡ replicate (length (now (s .entry))) 0 ⌝ }
 {
     let mut i = 0;

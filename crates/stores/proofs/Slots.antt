@@ -75,7 +75,7 @@ no-slot-fits b = record {
   size = length-replicate (b .size) 0;
 }
 
-no-slot-bytes : (b : Bank) → slotBytes (noSlot b) ≡ replicate (slotSize b) 0
+pub no-slot-bytes : (b : Bank) → slotBytes (noSlot b) ≡ replicate (slotSize b) 0
 unfolding slotBytes pack
 no-slot-bytes b = replicate-append-replicate 8 (b .size) 0
 

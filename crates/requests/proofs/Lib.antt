@@ -1,0 +1,9 @@
+pub mod Runs
+pub mod Conditions
+pub mod Fits
+pub mod Endings
+pub mod Named
+pub mod Replies
+pub mod Owned
+pub mod Fresh
+pub mod Looks

@@ -1,0 +1,6 @@
+pub mod Tests
+pub mod Clock
+pub mod Steps
+pub mod Opening
+pub mod PageRows
+pub mod Told

@@ -1,0 +1,4 @@
+mod Admission
+pub mod Exact
+mod Looking
+pub mod Unique

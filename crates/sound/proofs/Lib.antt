@@ -1,0 +1,6 @@
+pub mod Walks
+pub mod Records
+pub mod Seen
+pub mod Headers
+pub mod Unseen
+pub mod Sound
