@@ -7,3 +7,4 @@ pub mod Replies
 pub mod Owned
 pub mod Fresh
 pub mod Looks
+pub mod Unique
