@@ -2,7 +2,7 @@
 -- Assumes nothing.
 use Prim.Native.Nat.{ℕ, zero, suc, _≤_}
 use mathlib.Core.Path.{_≡_, refl}
-use mathlib.Core.Bool.{Bool, true, false, cond}
+use mathlib.Core.Bool.{Bool, true, false}
 use mathlib.Core.List.{List, [], _∷_}
 use native.Mathlib.Omega.{arith}
 use lib.Dec.{eqb}
@@ -18,9 +18,12 @@ use Rattle.paper.specs.Steps.{attempt, attempted, inPages, onPages, State, Run,
 use Rattle.paper.specs.Requests.{headerIn, checkOwner}
 use Rattle.paper.specs.Bytes.{hsFrom}
 use Rattle.rows.specs.Ends.{standing, Told}
-use Rattle.rows.specs.Rows.{opening, destroyEach, setEach}
+use Rattle.rows.specs.declared.Deed.{Deed}
+use Rattle.rows.specs.declared.Deed.the-variants.{Destroy, Expire}
+use Rattle.rows.specs.Rows.{opening, deedOn, eachDeed}
 use Rattle.rows.proofs.Steps.{header-step}
 use Rattle.rows.proofs.Opening.{read-found}
+use Rattle.rows.proofs.PageRows.{onPage}
 use Rattle.rows.proofs.Told.{Refusal, attempt-tells, tells}
 use Rattle.requests.proofs.Conditions.{read-refuses}
 
@@ -82,24 +85,20 @@ each-ends f h (p ∷ ps) os s = go (p .0) (each-ends f h ps os)
     go zero i = i s
     go (suc k) i = follow-ends Any Any (f (pageId (suc k)) os s) os (λ n. eachPage f ps) (h (pageId (suc k)) os s) (λ n s′ q. i s′)
 
-module _ (b : Bank) (os : List ℕ) (s s′ : State) (r : Step) where
-  -- each page destroyed
-  pub destroyed-told : (ps : List PageId) → settle r s′ ≡ destroyEach b ps os s → Told r
-  unfolding destroyEach
-  destroyed-told ps e = settle-told Any r s′ (rw e (each-ends _ (λ q. cleanup-ends (onPages (destroyPage b q))) ps os s))
+-- a deed done to each page
+module _ (b : Bank) where
+  deed-refuses : (deed : Deed) (q : PageId) (ps : PS) → Refusal (deedOn b deed q ps)
+  unfolding destroyPage setPageExpiry
+  deed-refuses Destroy q ps = tt
+  deed-refuses (Expire e) q ps = tt
 
-  set-refuses : (e : ℕ) (q : PageId) (ps : PS) → Refusal (setPageExpiry b e q ps)
-  unfolding setPageExpiry
-  set-refuses e q ps = tt
+  deed-ends : (deed : Deed) (pass : Bool) (q : PageId) (os : List ℕ) (s : State) → Ending Any (onPage pass (deedOn b deed) q os s)
+  deed-ends deed true q os s = cleanup-ends (onPages (deedOn b deed q)) os s
+  deed-ends deed false q os s = step-ends (deedOn b deed q) (deed-refuses deed q) os s
 
-  set-ends : (pass : Bool) (e : ℕ) (q : PageId) (os : List ℕ) (s : State) → Ending Any (cond pass (cleanup (onPages (setPageExpiry b e q))) (step (onPages (setPageExpiry b e q))) os s)
-  set-ends true e q os s = cleanup-ends (onPages (setPageExpiry b e q)) os s
-  set-ends false e q os s = step-ends (setPageExpiry b e q) (set-refuses e q) os s
-
-  -- each page's expiry set
-  pub set-told : (pass : Bool) (e : ℕ) (ps : List PageId) → settle r s′ ≡ setEach b pass e ps os s → Told r
-  unfolding setEach
-  set-told pass e ps h = settle-told Any r s′ (rw h (each-ends _ (set-ends pass e) ps os s))
+  pub deeds-told : (deed : Deed) (pass : Bool) (ps : List PageId) (os : List ℕ) (s s′ : State) (r : Step) → settle r s′ ≡ eachDeed b deed pass ps os s → Told r
+  unfolding eachDeed
+  deeds-told deed pass ps os s s′ r e = settle-told Any r s′ (rw e (each-ends _ (deed-ends deed pass) ps os s))
 
 -- the header opened
 module _ (time client : ℕ) (id : FileId) (os xs : List ℕ) (ps : PS) (r : Step)

@@ -23,7 +23,8 @@ use Rattle.paper.specs.Answers.{Destroy, Write, SetExpiry, lentPage, report}
 use Rattle.paper.specs.Requests.{replyOf, stepsOf, carryOut, write, destroy, setExpiry, putPageId, setHeaderExpiry}
 use Rattle.requests.specs.Seen.{Shown, shown, shows}
 use Rattle.rows.specs.Ends.{standing, told}
-use Rattle.rows.specs.Rows.{clocked, opening, destroyEach, setEach}
+use Rattle.rows.specs.declared.Deed.{Deed}
+use Rattle.rows.specs.Rows.{clocked, opening, eachDeed}
 use Rattle.requests.specs.Tails.{writing, issuing, lengthening, shortening}
 use Rattle.rows.proofs.Steps.{header-step, page-step}
 use Rattle.requests.proofs.Runs.{Stopped, Sees, goes-on, stops, header-goes-on, header-stops, finishes, gives, gives-on, regroups, open-stops, open-goes-on}
@@ -43,19 +44,19 @@ module _ (b : Bank) (time : ℕ) (os : List ℕ) (client : ℕ) (id : FileId) (h
         (open-goes-on os [] time client id _ hs′ ps r e n _ g (header-stops os [] _ _ r′ (destroyHeader n) (header-step os 1 false r′ (destroyHeader n) hs′ hs″ ps e′) _ a s t))
 
     module _ (m : ℕ) (g′ : r′ ≡ Gone m) (ps′ : PS) (r″ : Step) (taken : ℕ)
-        (e″ : (past : Bool) (hs : HS) → settle r″ (standing taken past hs ps′) ≡ destroyEach b (h .pages) os (standing 2 past hs ps)) where
-      rest : settle r″ (standing taken true hs″ ps′) ≡ destroyEach b (headerAt hs′ n .pages) os (standing 2 true hs″ ps)
+        (e″ : (past : Bool) (hs : HS) → settle r″ (standing taken past hs ps′) ≡ eachDeed b Deed.Destroy true (h .pages) os (standing 2 past hs ps)) where
+      rest : settle r″ (standing taken true hs″ ps′) ≡ eachDeed b Deed.Destroy true (headerAt hs′ n .pages) os (standing 2 true hs″ ps)
       rest = rw eh at (e″ true hs″)
 
       pub destroy-stops-third : (a : Answer) → Stopped r″ → report a ≡ told r″ → shows a [] (tables hs″ ps′) ≡ shown (carryOut b time os (Destroy client id) (tables hs ps))
-      unfolding stepsOf destroy lentPage _>>_ destroyEach
+      unfolding stepsOf destroy lentPage _>>_ eachDeed
       destroy-stops-third a s t =
           replies b time os (Destroy client id) hs hs′ ps _ clock
           (open-goes-on os [] time client id _ hs′ ps r e n _ g
           (header-goes-on os [] _ _ r′ (destroyHeader n) (header-step os 1 false r′ (destroyHeader n) hs′ hs″ ps e′) _ m _ g′ (stops os [] _ _ r″ _ _ rest a s t)))
 
       pub destroy-ends : (k : ℕ) → r″ ≡ Gone k → shows (Success nullId) [] (tables hs″ ps′) ≡ shown (carryOut b time os (Destroy client id) (tables hs ps))
-      unfolding stepsOf destroy lentPage _>>_ destroyEach
+      unfolding stepsOf destroy lentPage _>>_ eachDeed
       destroy-ends k g″ =
           replies b time os (Destroy client id) hs hs′ ps _ clock
           (open-goes-on os [] time client id _ hs′ ps r e n _ g
@@ -84,16 +85,16 @@ module _ (b : Bank) (time : ℕ) (os : List ℕ) (n : ℕ) (h : Header) (number 
     write-stops-third a s t = of-header _ (goes-on os page _ _ r _ _ placed p _ g (header-stops os page _ _ r′ _ replaced _ a s t))
 
     module _ (i : ℕ) (g′ : r′ ≡ Gone i) (q : PageId) (eq : q ≡ getPageId h number) (ps″ : PS) (r″ : Step) (taken : ℕ)
-        (e″ : (past : Bool) (hs : HS) → settle r″ (standing taken past hs ps″) ≡ destroyEach b (q ∷ []) os (standing 3 past hs ps′)) where
-      cleared : settle r″ (standing taken true hs′ ps″) ≡ destroyEach b (getPageId h number ∷ []) os (standing 3 true hs′ ps′)
+        (e″ : (past : Bool) (hs : HS) → settle r″ (standing taken past hs ps″) ≡ eachDeed b Deed.Destroy true (q ∷ []) os (standing 3 past hs ps′)) where
+      cleared : settle r″ (standing taken true hs′ ps″) ≡ eachDeed b Deed.Destroy true (getPageId h number ∷ []) os (standing 3 true hs′ ps′)
       cleared = rw eq at (e″ true hs′)
 
       pub write-stops-last : (a : Answer) → Stopped r″ → report a ≡ told r″ → Sees os page (writing b time n (headerAt hs n) number page) (standing 1 false hs ps) (shows a page (tables hs′ ps″))
-      unfolding writing _>>_ destroyEach
+      unfolding writing _>>_ eachDeed
       write-stops-last a s t = of-header _ (goes-on os page _ _ r _ _ placed p _ g (header-goes-on os page _ _ r′ _ replaced _ i _ g′ (stops os page _ _ r″ _ _ cleared a s t)))
 
       pub write-ends : (k : ℕ) → r″ ≡ Gone k → Sees os page (writing b time n (headerAt hs n) number page) (standing 1 false hs ps) (shows (Success (fileId i)) page (tables hs′ ps″))
-      unfolding writing _>>_ destroyEach
+      unfolding writing _>>_ eachDeed
       write-ends k g″ = of-header _ (goes-on os page _ _ r _ _ placed p _ g (header-goes-on os page _ _ r′ _ replaced _ i _ g′ (goes-on os page _ _ r″ _ _ cleared k _ g″ (gives os page _ _))))
 
 module _ (b : Bank) (time : ℕ) (os : List ℕ) (client : ℕ) (id : FileId) (number : PageNum) (page : List ℕ) (hs hs′ : HS) (ps : PS) (r : Step) (clock : hs′ ≡ clocked time hs)
@@ -109,19 +110,19 @@ module _ (b : Bank) (time : ℕ) (os : List ℕ) (client : ℕ) (id : FileId) (n
 
 -- SetExpiry once the header is found: a life made longer
 module _ (b : Bank) (time x : ℕ) (os : List ℕ) (n : ℕ) (h : Header) (hs : HS) (ps ps′ : PS) (r : Step) (taken : ℕ) (eh : h ≡ headerAt hs n)
-    (e : (past : Bool) (hs : HS) → settle r (standing taken past hs ps′) ≡ setEach b false x (h .pages) os (standing 1 past hs ps)) where
+    (e : (past : Bool) (hs : HS) → settle r (standing taken past hs ps′) ≡ eachDeed b (Deed.Expire x) false (h .pages) os (standing 1 past hs ps)) where
   lengthened : (v : Shown) → Sees os [] (issuing (lengthening b time x n h)) (standing 1 false hs ps) v
       → Sees os [] (issuing (lengthening b time x n (headerAt hs n))) (standing 1 false hs ps) v
   lengthened v s = s ∙ ap (λ (q : Header). shown (replyOf [] (issuing (lengthening b time x n q) os (standing 1 false hs ps)))) eh
 
   pub lengthen-stops : (a : Answer) → Stopped r → report a ≡ told r
       → Sees os [] (issuing (lengthening b time x n (headerAt hs n))) (standing 1 false hs ps) (shows a [] (tables hs ps′))
-  unfolding lengthening _>>_ setEach
+  unfolding lengthening _>>_ eachDeed
   lengthen-stops a s t = lengthened _ (regroups os [] _ _ _ _ _ (stops os [] _ _ r _ _ (e false hs) a s t))
 
   pub lengthen-ends : (m : ℕ) (w : Header) (hs′ : HS) (r′ : Step) (a : Answer) → r ≡ Gone m → w ≡ setHeaderExpiry time x h → done r′ hs′ ≡ attempt (getD os taken 0) (replaceHeader n w) hs
       → report a ≡ told r′ → Sees os [] (issuing (lengthening b time x n (headerAt hs n))) (standing 1 false hs ps) (shows a [] (tables hs′ ps′))
-  unfolding lengthening _>>_ setEach
+  unfolding lengthening _>>_ eachDeed
   lengthen-ends m w hs′ r′ a g ew e′ t =
       lengthened _ (regroups os [] _ _ _ _ _ (goes-on os [] _ _ r _ _ (e false hs) m _ g (finishes os [] _ _ r′ _ (header-step os taken false r′ (replaceHeader n (setHeaderExpiry time x h)) hs hs′ ps′ (rw ew at e′)) a t)))
 
@@ -141,16 +142,16 @@ module _ (b : Bank) (time x : ℕ) (os : List ℕ) (n : ℕ) (h w : Header) (hs 
   shorten-stops a s t = shortened _ (regroups os [] _ _ _ _ _ (header-stops os [] _ _ r _ renewed _ a s t))
 
   module _ (i : ℕ) (g : r ≡ Gone i) (ps′ : PS) (r′ : Step) (taken : ℕ)
-      (e′ : (past : Bool) (hs : HS) → settle r′ (standing taken past hs ps′) ≡ setEach b true x (h .pages) os (standing 2 past hs ps)) where
+      (e′ : (past : Bool) (hs : HS) → settle r′ (standing taken past hs ps′) ≡ eachDeed b (Deed.Expire x) true (h .pages) os (standing 2 past hs ps)) where
     pub shorten-stops-later : (a : Answer) → Stopped r′ → report a ≡ told r′
         → Sees os [] (issuing (shortening b time x n (headerAt hs n))) (standing 1 false hs ps) (shows a [] (tables hs′ ps′))
-    unfolding shortening _>>_ setEach
+    unfolding shortening _>>_ eachDeed
     shorten-stops-later a s t =
         shortened _ (regroups os [] _ _ _ _ _ (header-goes-on os [] _ _ r _ renewed _ i _ g (regroups os [] _ _ _ _ _ (stops os [] _ _ r′ _ _ (e′ true hs′) a s t))))
 
     pub shorten-ends : (k : ℕ) → r′ ≡ Gone k
         → Sees os [] (issuing (shortening b time x n (headerAt hs n))) (standing 1 false hs ps) (shows (Success (fileId i)) [] (tables hs′ ps′))
-    unfolding shortening _>>_ setEach
+    unfolding shortening _>>_ eachDeed
     shorten-ends k g′ =
         shortened _ (regroups os [] _ _ _ _ _ (header-goes-on os [] _ _ r _ renewed _ i _ g
         (regroups os [] _ _ _ _ _ (goes-on os [] _ _ r′ _ _ (e′ true hs′) k _ g′ (gives-on os [] _ _ _ _ (gives os [] _ _))))))

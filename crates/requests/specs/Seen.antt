@@ -5,7 +5,7 @@ use mathlib.Core.Bool.{true, cond}
 use mathlib.Core.List.{List}
 use lib.ListN.{length}
 use Rattle.paper.specs.declared.Answer.{Answer}
-use Rattle.paper.specs.Lists.{all, isZero}
+use Rattle.paper.specs.Lists.{isZero}
 use Rattle.paper.specs.Tables.{Tables, headerSlots, headerAt}
 use Rattle.paper.specs.Sound.{sound}
 use Rattle.paper.specs.Answers.{Report, report}

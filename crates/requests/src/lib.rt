@@ -22,6 +22,7 @@ use paper::PageId;
 use paper::PageNum;
 use paper::Step;
 use paper::Swept;
+use rows::Deed;
 
 // The later of two times.
 fn later(a: u32, b: u32) -> u32
@@ -88,14 +89,8 @@ fn write_opened(
     let Step::Gone(i) = third else {
         return rows::ends::ended(third);
     };
-    let row = rows::destroy_one(
-        pages,
-        slots,
-        size,
-        outcomes,
-        3,
-        rows::forms::page_of(h, number),
-    );
+    let former = rows::forms::page_of(h, number);
+    let row = rows::one_page(pages, slots, size, outcomes, 3, former, Deed::Destroy, true);
     let last = row.step;
     let Step::Gone(_) = last else {
         return rows::ends::ended(last);
@@ -218,7 +213,7 @@ pub fn destroy(
         return rows::ends::ended(second);
     };
     let ids = h.pages;
-    let row = rows::destroy_pages(pages, slots, size, outcomes, 2, ids);
+    let row = rows::each_page(pages, slots, size, outcomes, 2, ids, Deed::Destroy, true);
     let last = row.step;
     let Step::Gone(_) = last else {
         return rows::ends::ended(last);
@@ -242,7 +237,8 @@ fn lengthen(
 {
     let h = records::header(headers, n);
     let ids = h.pages;
-    let row = rows::set_pages(pages, slots, size, outcomes, 1, ids, expires, false);
+    let deed = Deed::Expire(expires);
+    let row = rows::each_page(pages, slots, size, outcomes, 1, ids, deed, false);
     let set = row.step;
     let Step::Gone(_) = set else {
         return rows::ends::ended(set);
@@ -273,7 +269,8 @@ fn shorten(
         return rows::ends::ended(second);
     };
     let ids = h.pages;
-    let row = rows::set_pages(pages, slots, size, outcomes, 2, ids, expires, true);
+    let deed = Deed::Expire(expires);
+    let row = rows::each_page(pages, slots, size, outcomes, 2, ids, deed, true);
     let last = row.step;
     let Step::Gone(_) = last else {
         return rows::ends::ended(last);

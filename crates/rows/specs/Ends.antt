@@ -11,7 +11,6 @@ use Rattle.paper.specs.Lists.{all}
 use Rattle.paper.specs.Tables.{HS, PS}
 use Rattle.paper.specs.Steps.{State}
 use Rattle.paper.specs.Answers.{Report, anId, succeeded, refused}
-use Rattle.stores.specs.Geometry.{bank}
 
 -- taken steps, whether the header step is among them, the two stores
 abbrev pub standing : ℕ → Bool → HS → PS → State

@@ -4,10 +4,12 @@ use mathlib.Core.Bool.{Bool, cond}
 use mathlib.Core.List.{List}
 use Rattle.paper.specs.declared.FileId.{FileId}
 use Rattle.paper.specs.declared.PageId.{PageId}
-use Rattle.paper.specs.Tables.{Bank, HS, withControl}
-use Rattle.paper.specs.Stores.{destroyPage, setPageExpiry, readHeader}
+use Rattle.paper.specs.Tables.{Bank, HS, PS, withControl}
+use Rattle.paper.specs.Stores.{Try, destroyPage, setPageExpiry, readHeader}
 use Rattle.paper.specs.Steps.{Steps, _>>=_, _>>_, give, ask, step, cleanup, eachPage, onHeaders, onPages}
 use Rattle.paper.specs.Requests.{headerIn, checkOwner}
+use Rattle.rows.specs.declared.Deed.{Deed}
+use Rattle.rows.specs.declared.Deed.the-variants.{Destroy, Expire}
 
 -- the header store with now as its clock
 abbrev pub clocked : ℕ → HS → HS
@@ -21,10 +23,11 @@ opening now client id = do
   checkOwner client h
   give n
 
--- destroy each page
-unfoldable pub destroyEach : Bank → List PageId → Steps ℕ
-destroyEach b ps = eachPage (λ q. cleanup (onPages (destroyPage b q))) ps
+-- what a deed makes of the slots: the page destroyed, or its expiry set
+abbrev pub deedOn : Bank → Deed → PageId → PS → Try PS
+deedOn b Destroy p = destroyPage b p
+deedOn b (Expire e) p = setPageExpiry b e p
 
--- set each page's expiry: passing over what is refused, after the header step, or ending with it
-unfoldable pub setEach : Bank → Bool → ℕ → List PageId → Steps ℕ
-setEach b pass e ps = eachPage (λ q. cond pass (cleanup (onPages (setPageExpiry b e q))) (step (onPages (setPageExpiry b e q)))) ps
+-- the deed done to each page: passing over what is refused, after the header step, or ending with it
+unfoldable pub eachDeed : Bank → Deed → Bool → List PageId → Steps ℕ
+eachDeed b deed pass ps = eachPage (λ q. cond pass (cleanup (onPages (deedOn b deed q))) (step (onPages (deedOn b deed q)))) ps

@@ -8,11 +8,11 @@ ghost use Prim.Native.Nat.{ℕ, _+_, _≤_};
 ghost use mathlib.Core.List.{List, [], _∷_};
 ghost use lib.ListN.{length};
 ghost use Rattle.paper.specs.Tables.{HS, PS};
-ghost use Rattle.paper.specs.Steps.{State, follow, give, settle, passOver};
+ghost use Rattle.paper.specs.Steps.{done, attempt, State, follow, give, settle, passOver};
 ghost use Rattle.paper.specs.Bytes.{headersLength, hsFrom, psFrom};
 ghost use Rattle.stores.specs.Geometry.{Geometry, bank};
 ghost use Rattle.rows.specs.Ends.{standing, named};
-ghost use Rattle.rows.specs.Rows.{clocked, opening, destroyEach, setEach};
+ghost use Rattle.rows.specs.Rows.{clocked, opening, deedOn, eachDeed};
 use paper::FileId;
 use paper::PageId;
 use paper::Step;
@@ -21,6 +21,12 @@ use paper::Step;
 pub struct Row {
     pub step: Step,
     pub taken: usize,
+}
+
+// What a row does to a page.
+pub enum Deed {
+    Destroy,
+    Expire(u32),
 }
 
 // The clock is stored before step 1.
@@ -68,77 +74,39 @@ fn passed_over(s: Step, pass: bool) -> Step
     }
 }
 
-// One page destroyed, if there is one: page id 0 makes no step.
-pub fn destroy_one(
+// A page's step: the page destroyed, or its expiry set.
+fn deed_step(
+    pages: &mut [u8],
+    slots: usize,
+    size: usize,
+    outcome: u8,
+    id: PageId,
+    deed: Deed,
+) -> Step
+    requires { ⌜ Geometry slots size (now pages) ⌝ }
+    requires { ⌜ (1 ≤ id .0) × (id .0 ≤ slots) ⌝ }
+    ensures { λ r. ⌜ done r (psFrom (bank slots size) (now (pages .exit))) ≡ attempt outcome (deedOn (bank slots size) deed id) (psFrom (bank slots size) (now (pages .entry))) ⌝ }
+{
+    match deed {
+        Deed::Destroy => stores::pages::destroy_page(pages, slots, size, outcome, id),
+        Deed::Expire(e) => stores::pages::set_page_expiry(pages, slots, size, outcome, id, e),
+    }
+}
+
+// The deed done to one page, if there is one: page id 0 makes no step. A refusal is passed over where `pass` says so.
+pub fn one_page(
     pages: &mut [u8],
     slots: usize,
     size: usize,
     outcomes: &[u8],
     from: usize,
     id: PageId,
-) -> Row
-    requires { ⌜ Geometry slots size (now pages) ⌝ }
-    requires { ⌜ (from + 1 ≤ length (now outcomes)) × (id .0 ≤ slots) ⌝ }
-    ensures { λ r. ⌜ (r .taken ≤ from + 1) × ((past : Bool) (hs : HS) → settle (r .step) (standing (r .taken) past hs (psFrom (bank slots size) (now (pages .exit)))) ≡ destroyEach (bank slots size) (id ∷ []) (now (outcomes .entry)) (standing from past hs (psFrom (bank slots size) (now (pages .entry))))) ⌝ }
-{
-    if id.0 == 0 {
-        return Row {
-            step: Step::Gone(0),
-            taken: from,
-        };
-    }
-    let s = stores::pages::destroy_page(pages, slots, size, outcomes[from], id);
-    Row {
-        step: passed_over(s, true),
-        taken: from + 1,
-    }
-}
-
-// Each page destroyed, by rising page number.
-pub fn destroy_pages(
-    pages: &mut [u8],
-    slots: usize,
-    size: usize,
-    outcomes: &[u8],
-    from: usize,
-    ids: [PageId; 16],
-) -> Row
-    requires { ⌜ Geometry slots size (now pages) ⌝ }
-    requires { ⌜ (from + 16 ≤ length (now outcomes)) × (named slots ids ≡ true) ⌝ }
-    ensures { λ r. ⌜ (r .taken ≤ from + 16) × ((past : Bool) (hs : HS) → settle (r .step) (standing (r .taken) past hs (psFrom (bank slots size) (now (pages .exit)))) ≡ destroyEach (bank slots size) ids (now (outcomes .entry)) (standing from past hs (psFrom (bank slots size) (now (pages .entry))))) ⌝ }
-{
-    let mut taken = from;
-    let mut k = 0;
-    while k < 16 {
-        let p = ids[k];
-        let row = destroy_one(pages, slots, size, outcomes, taken, p);
-        let s = row.step;
-        let Step::Gone(_) = s else {
-            return row;
-        };
-        taken = row.taken;
-        k += 1;
-    }
-    Row {
-        step: Step::Gone(0),
-        taken,
-    }
-}
-
-// One page's expiry set, if there is a page; a refusal is passed over where `pass` says so.
-pub fn set_one(
-    pages: &mut [u8],
-    slots: usize,
-    size: usize,
-    outcomes: &[u8],
-    from: usize,
-    id: PageId,
-    expires: u32,
+    deed: Deed,
     pass: bool,
 ) -> Row
     requires { ⌜ Geometry slots size (now pages) ⌝ }
     requires { ⌜ (from + 1 ≤ length (now outcomes)) × (id .0 ≤ slots) ⌝ }
-    ensures { λ r. ⌜ (r .taken ≤ from + 1) × ((past : Bool) (hs : HS) → settle (r .step) (standing (r .taken) past hs (psFrom (bank slots size) (now (pages .exit)))) ≡ setEach (bank slots size) pass expires (id ∷ []) (now (outcomes .entry)) (standing from past hs (psFrom (bank slots size) (now (pages .entry))))) ⌝ }
+    ensures { λ r. ⌜ (r .taken ≤ from + 1) × ((past : Bool) (hs : HS) → settle (r .step) (standing (r .taken) past hs (psFrom (bank slots size) (now (pages .exit)))) ≡ eachDeed (bank slots size) deed pass (id ∷ []) (now (outcomes .entry)) (standing from past hs (psFrom (bank slots size) (now (pages .entry))))) ⌝ }
 {
     if id.0 == 0 {
         return Row {
@@ -146,33 +114,33 @@ pub fn set_one(
             taken: from,
         };
     }
-    let s = stores::pages::set_page_expiry(pages, slots, size, outcomes[from], id, expires);
+    let s = deed_step(pages, slots, size, outcomes[from], id, deed);
     Row {
         step: passed_over(s, pass),
         taken: from + 1,
     }
 }
 
-// Each page's expiry set, by rising page number.
-pub fn set_pages(
+// The deed done to each page, by rising page number.
+pub fn each_page(
     pages: &mut [u8],
     slots: usize,
     size: usize,
     outcomes: &[u8],
     from: usize,
     ids: [PageId; 16],
-    expires: u32,
+    deed: Deed,
     pass: bool,
 ) -> Row
     requires { ⌜ Geometry slots size (now pages) ⌝ }
     requires { ⌜ (from + 16 ≤ length (now outcomes)) × (named slots ids ≡ true) ⌝ }
-    ensures { λ r. ⌜ (r .taken ≤ from + 16) × ((past : Bool) (hs : HS) → settle (r .step) (standing (r .taken) past hs (psFrom (bank slots size) (now (pages .exit)))) ≡ setEach (bank slots size) pass expires ids (now (outcomes .entry)) (standing from past hs (psFrom (bank slots size) (now (pages .entry))))) ⌝ }
+    ensures { λ r. ⌜ (r .taken ≤ from + 16) × ((past : Bool) (hs : HS) → settle (r .step) (standing (r .taken) past hs (psFrom (bank slots size) (now (pages .exit)))) ≡ eachDeed (bank slots size) deed pass ids (now (outcomes .entry)) (standing from past hs (psFrom (bank slots size) (now (pages .entry))))) ⌝ }
 {
     let mut taken = from;
     let mut k = 0;
     while k < 16 {
         let p = ids[k];
-        let row = set_one(pages, slots, size, outcomes, taken, p, expires, pass);
+        let row = one_page(pages, slots, size, outcomes, taken, p, deed, pass);
         let s = row.step;
         let Step::Gone(_) = s else {
             return row;

@@ -9,7 +9,7 @@ use Rattle.paper.specs.Tables.{headerSlots}
 use Rattle.paper.specs.Bytes.{hsFrom}
 use Rattle.rows.proofs.Told.{tells}
 use Rattle.requests.proofs.Conditions.{destroy-refuses, at-slot}
-use Rattle.requests.proofs.Endings.{opened-told, opened-slot, destroyed-told}
+use Rattle.requests.proofs.Endings.{opened-told, opened-slot, deeds-told}
 use Rattle.requests.proofs.Named.{opens, read-named}
 use Rattle.requests.proofs.Owned.{destroy-stops, destroy-stops-second, destroy-stops-third, destroy-ends}
 use borrow.Author.Needs.{needs}
@@ -75,8 +75,8 @@ returns-2 c =
     destroy-stops-second _ _ _ _ _ _ _ _ _ (o .ensures .0) (o .ensures .1 _) _ _ (k .before .first .given .1) (at-slot _ _ _ (here k) (h .header .ensures)) _ _ (d .destroy-header .ensures)
     (c .ended2 .result) (c .before .match2 .keys2) (c .ended2 .ensures)
 
-destroy-pages-requires : tie.Need-destroy-pages-requires
-destroy-pages-requires c κs =
+each-page-requires : tie.Need-each-page-requires
+each-page-requires c κs =
     let k = c .before .before .before .before .before .before .before .before .before .before .before in
     let o = k .before .before .before .before .before .«open» in
     let s = start k in
@@ -87,7 +87,7 @@ enum-told-2 : tie.Need-enum-told-2
 enum-told-2 c = search needs
 
 ended-requires-3 : tie.Need-ended-requires-3
-ended-requires-3 c κs = destroyed-told _ _ _ _ _ _ (c .before .before .before .destroy-pages .ensures .1 false (hsFrom []))
+ended-requires-3 c κs = deeds-told _ _ _ _ _ _ _ _ (c .before .before .before .each-page .ensures .1 false (hsFrom []))
 
 same-length-3 : tie.Need-same-length-3
 same-length-3 c = search needs
@@ -103,7 +103,7 @@ returns-3 c =
     let k = h .before .before in
     let o = k .before .before .before .before .before .«open» in
     destroy-stops-third _ _ _ _ _ _ _ _ _ (o .ensures .0) (o .ensures .1 _) _ _ (k .before .first .given .1) (at-slot _ _ _ (here k) (h .header .ensures)) _ _ (d .destroy-header .ensures)
-    _ (p .before .before .before .enum-told .given .1) _ _ _ (p .destroy-pages .ensures .1) (c .ended3 .result) (c .before .match3 .keys2) (c .ended3 .ensures)
+    _ (p .before .before .before .enum-told .given .1) _ _ _ (p .each-page .ensures .1) (c .ended3 .result) (c .before .match3 .keys2) (c .ended3 .ensures)
 
 same-length-5 : tie.Need-same-length-5
 same-length-5 c = search needs
@@ -119,7 +119,7 @@ returns-4 c =
     let k = h .before .before in
     let o = k .before .before .before .before .before .«open» in
     destroy-ends _ _ _ _ _ _ _ _ _ (o .ensures .0) (o .ensures .1 _) _ _ (k .before .first .given .1) (at-slot _ _ _ (here k) (h .header .ensures)) _ _ (d .destroy-header .ensures)
-    _ (p .before .before .before .enum-told .given .1) _ _ _ (p .destroy-pages .ensures .1) _ (c .enum-told2 .given .1)
+    _ (p .before .before .before .enum-told .given .1) _ _ _ (p .each-page .ensures .1) _ (c .enum-told2 .given .1)
 
 pub destroy-spec : {M : Type 1} → statement M
 destroy-spec =
@@ -139,7 +139,7 @@ destroy-spec =
     ended-requires-2
     same-length-2
     returns-2
-    destroy-pages-requires
+    each-page-requires
     enum-told-2
     ended-requires-3
     same-length-3

@@ -9,7 +9,7 @@ use Rattle.paper.specs.Tables.{headerAt}
 use Rattle.paper.specs.Bytes.{hsFrom}
 use Rattle.rows.proofs.Told.{tells}
 use Rattle.requests.proofs.Conditions.{replace-refuses, at-slot}
-use Rattle.requests.proofs.Endings.{set-told}
+use Rattle.requests.proofs.Endings.{deeds-told}
 use Rattle.requests.proofs.Fits.{read-fits, expiring-fits}
 use Rattle.requests.proofs.Named.{read-named}
 use Rattle.requests.proofs.Owned.{lengthen-stops, lengthen-ends}
@@ -20,8 +20,8 @@ use Rattle.requests.proofs.lengthen.Tie as tie
 header-requires : tie.Need-header-requires
 header-requires c κs = search needs
 
-set-pages-requires : tie.Need-set-pages-requires
-set-pages-requires c κs =
+each-page-requires : tie.Need-each-page-requires
+each-page-requires c κs =
     let s = c .before .before .before .before .before .before .before in
     (s .pre .geometry, (omega (arith, s .pre .steps), read-named _ _ _ _ _ _ _ (s .pre) (c .before .before .header .ensures)))
 
@@ -29,7 +29,7 @@ enum-told : tie.Need-enum-told
 enum-told c = search needs
 
 -- the header in slot n, as it was read
-abbrev header : tie.After-set-pages → tie.After-header
+abbrev header : tie.After-each-page → tie.After-header
 header c = c .before .before .before
 
 abbrev start : tie.After-header → tie.Start
@@ -39,7 +39,7 @@ read : (c : tie.After-header) → c .header .result ≡ headerAt (hsFrom (now (s
 read c = at-slot _ _ _ (start c .pre .slot) (c .header .ensures)
 
 ended-requires : tie.Need-ended-requires
-ended-requires c κs = set-told _ _ _ _ _ _ _ _ (c .before .before .before .set-pages .ensures .1 false (hsFrom []))
+ended-requires c κs = deeds-told _ _ _ _ _ _ _ _ (c .before .before .before .each-page .ensures .1 false (hsFrom []))
 
 same-length : tie.Need-same-length
 same-length c = search needs
@@ -50,13 +50,13 @@ same-length-2 c = search needs
 returns : tie.Need-returns
 returns c =
     let p = c .before .before .before .before in
-    lengthen-stops _ _ _ _ _ _ _ _ _ _ _ (read (header p)) (p .set-pages .ensures .1) (c .ended .result) (c .before .match .keys2) (c .ended .ensures)
+    lengthen-stops _ _ _ _ _ _ _ _ _ _ _ (read (header p)) (p .each-page .ensures .1) (c .ended .result) (c .before .match .keys2) (c .ended .ensures)
 
 with-expiry-requires : tie.Need-with-expiry-requires
 with-expiry-requires c κs = search needs
 
 shared-slice-read-replace-header : tie.Need-shared-slice-read-replace-header
-shared-slice-read-replace-header c = let p = c .before .before .before .before .before .before .before in omega (arith, p .set-pages .ensures .0, start (header p) .pre .steps)
+shared-slice-read-replace-header c = let p = c .before .before .before .before .before .before .before in omega (arith, p .each-page .ensures .0, start (header p) .pre .steps)
 
 time-fits : (s : tie.Start) → s .args .time < 2 ^ 32
 time-fits s = search needs
@@ -83,7 +83,7 @@ same-length-4 c = search needs
 returns-2 : tie.Need-returns-2
 returns-2 c =
     let p = c .before .before .before .before .before .before .before .before .before .before .before in
-    lengthen-ends _ _ _ _ _ _ _ _ _ _ _ (read (header p)) (p .set-pages .ensures .1) _ _ _ _ (c .ended2 .result)
+    lengthen-ends _ _ _ _ _ _ _ _ _ _ _ (read (header p)) (p .each-page .ensures .1) _ _ _ _ (c .ended2 .result)
     (c .before .before .before .before .before .before .before .enum-told .given .1) (c .before .before .before .before .before .before .with-expiry .ensures) (c .before .before .before .replace-header .ensures) (c .ended2 .ensures)
 
 pub lengthen-spec : {M : Type 1} → statement M
@@ -91,7 +91,7 @@ lengthen-spec =
     tie.close
     (tie.spec
     header-requires
-    set-pages-requires
+    each-page-requires
     enum-told
     ended-requires
     same-length

@@ -9,7 +9,7 @@ use Rattle.paper.specs.Tables.{headerAt}
 use Rattle.paper.specs.Bytes.{hsFrom}
 use Rattle.rows.proofs.Told.{tells}
 use Rattle.requests.proofs.Conditions.{replace-refuses, at-slot}
-use Rattle.requests.proofs.Endings.{set-told}
+use Rattle.requests.proofs.Endings.{deeds-told}
 use Rattle.requests.proofs.Fits.{read-fits, expiring-fits}
 use Rattle.requests.proofs.Named.{read-named}
 use Rattle.requests.proofs.Owned.{shorten-stops, shorten-stops-later, shorten-ends}
@@ -63,8 +63,8 @@ returns c =
     let r = c .before .before .before .before in
     shorten-stops _ _ _ _ _ _ _ _ _ _ _ (read (header r)) (r .before .before .before .with-expiry .ensures) (r .replace-header .ensures) (c .ended .result) (c .before .match .keys2) (c .ended .ensures)
 
-set-pages-requires : tie.Need-set-pages-requires
-set-pages-requires c κs =
+each-page-requires : tie.Need-each-page-requires
+each-page-requires c κs =
     let h = header (c .before .before .before .before .before .before .before) in
     let s = start h in
     (s .pre .geometry, (omega (arith, s .pre .steps), read-named _ _ _ _ _ _ _ (s .pre) (h .header .ensures)))
@@ -73,7 +73,7 @@ enum-told : tie.Need-enum-told
 enum-told c = search needs
 
 ended-requires-2 : tie.Need-ended-requires-2
-ended-requires-2 c κs = set-told _ _ _ _ _ _ _ _ (c .before .before .before .set-pages .ensures .1 false (hsFrom []))
+ended-requires-2 c κs = deeds-told _ _ _ _ _ _ _ _ (c .before .before .before .each-page .ensures .1 false (hsFrom []))
 
 same-length-2 : tie.Need-same-length-2
 same-length-2 c = search needs
@@ -85,7 +85,7 @@ returns-2 : tie.Need-returns-2
 returns-2 c =
     let p = c .before .before .before .before in
     let r = p .before .before .before .before .before .before .before .before in
-    shorten-stops-later _ _ _ _ _ _ _ _ _ _ _ (read (header r)) (r .before .before .before .with-expiry .ensures) (r .replace-header .ensures) _ (p .before .before .before .before .second .given .1) _ _ _ (p .set-pages .ensures .1)
+    shorten-stops-later _ _ _ _ _ _ _ _ _ _ _ (read (header r)) (r .before .before .before .with-expiry .ensures) (r .replace-header .ensures) _ (p .before .before .before .before .second .given .1) _ _ _ (p .each-page .ensures .1)
     (c .ended2 .result) (c .before .match2 .keys2) (c .ended2 .ensures)
 
 same-length-4 : tie.Need-same-length-4
@@ -98,7 +98,7 @@ returns-3 : tie.Need-returns-3
 returns-3 c =
     let p = c .before .before .before .before in
     let r = p .before .before .before .before .before .before .before .before in
-    shorten-ends _ _ _ _ _ _ _ _ _ _ _ (read (header r)) (r .before .before .before .with-expiry .ensures) (r .replace-header .ensures) _ (p .before .before .before .before .second .given .1) _ _ _ (p .set-pages .ensures .1)
+    shorten-ends _ _ _ _ _ _ _ _ _ _ _ (read (header r)) (r .before .before .before .with-expiry .ensures) (r .replace-header .ensures) _ (p .before .before .before .before .second .given .1) _ _ _ (p .each-page .ensures .1)
     _ (c .enum-told .given .1)
 
 pub shorten-spec : {M : Type 1} → statement M
@@ -113,7 +113,7 @@ shorten-spec =
     ended-requires
     same-length
     returns
-    set-pages-requires
+    each-page-requires
     enum-told
     ended-requires-2
     same-length-2

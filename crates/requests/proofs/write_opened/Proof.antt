@@ -9,7 +9,7 @@ use Rattle.paper.specs.Tables.{headerAt}
 use Rattle.paper.specs.Bytes.{hsFrom}
 use Rattle.rows.proofs.Told.{tells}
 use Rattle.requests.proofs.Conditions.{page-refuses, replace-refuses, created-slot, at-slot}
-use Rattle.requests.proofs.Endings.{destroyed-told}
+use Rattle.requests.proofs.Endings.{deeds-told}
 use Rattle.requests.proofs.Fits.{read-fits, paged-fits}
 use Rattle.requests.proofs.Named.{page-read-named}
 use Rattle.requests.proofs.Owned.{write-stops-second, write-stops-third, write-stops-last, write-ends}
@@ -60,8 +60,8 @@ time-fits s = search needs
 here : (c : tie.After-known-told) → (1 ≤ c .before .second .given .0 .0) × (c .before .second .given .0 .0 ≤ start (header (c .before .before .before .before .before)) .args .slots)
 here c = created-slot _ _ _ _ _ _ _ _ _ _ (c .before .before .before .before .before .create-page .ensures) (c .before .second .given .1)
 
-cast-t24 : tie.Need-cast-t24
-cast-t24 c = let i = here c in record { fits = omega (arith, start (header (c .before .before .before .before .before)) .pre .0 .geometry .few) }
+cast-t25 : tie.Need-cast-t25
+cast-t25 c = let i = here c in record { fits = omega (arith, start (header (c .before .before .before .before .before)) .pre .0 .geometry .few) }
 
 with-page-requires : tie.Need-with-page-requires
 with-page-requires c κs = search needs
@@ -99,22 +99,22 @@ returns-2 c =
     (c .ended2 .result) (c .before .match2 .keys2) (c .ended2 .ensures)
 
 page-of-requires : tie.Need-page-of-requires
-page-of-requires c κs = start (header (c .before .before .before .before .before .before .before .before .before .before .before .before .before .before .before)) .pre .1 .1
+page-of-requires c κs = start (header (c .before .before .before .before .before .before .before .before .before .before .before .before .before .before)) .pre .1 .1
 
-destroy-one-requires : tie.Need-destroy-one-requires
-destroy-one-requires c κs =
+one-page-requires : tie.Need-one-page-requires
+one-page-requires c κs =
     let p = c .before .before .before .before .before .before .before .before .before .before .before .before .before .before .before .before in
     let h = header p in
     let o = start h .pre .0 in (
       record { few = o .geometry .few; whole = p .create-page .kept .0 ∙ o .geometry .whole },
-      (omega (arith, o .steps), page-read-named _ _ _ _ _ _ _ _ _ o (h .header .ensures) (c .page-of .ensures)),
+      (omega (arith, o .steps), page-read-named _ _ _ _ _ _ _ _ _ o (h .header .ensures) (c .before .page-of .ensures)),
     )
 
 enum-told : tie.Need-enum-told
 enum-told c = search needs
 
 ended-requires-3 : tie.Need-ended-requires-3
-ended-requires-3 c κs = destroyed-told _ _ _ _ _ _ (c .before .before .before .destroy-one .ensures .1 false (hsFrom []))
+ended-requires-3 c κs = deeds-told _ _ _ _ _ _ _ _ (c .before .before .before .one-page .ensures .1 false (hsFrom []))
 
 same-length-5 : tie.Need-same-length-5
 same-length-5 c = search needs
@@ -128,7 +128,7 @@ returns-3 c =
     let r = d .before .before .before .before .before .before .before .before in
     let p = r .before .before .before .before .before .before .before .before .before in
     write-stops-last _ _ _ _ _ _ _ _ _ _ _ (read (header p)) (p .create-page .ensures) _ _ (r .before .before .before .before .before .second .given .1) (r .before .before .before .with-page .ensures) _ _ (r .replace-header .ensures)
-    _ (d .before .before .before .before .third .given .1) _ (d .before .page-of .ensures) _ _ _ (d .destroy-one .ensures .1) (c .ended3 .result) (c .before .match3 .keys2) (c .ended3 .ensures)
+    _ (d .before .before .before .before .third .given .1) _ (d .before .before .page-of .ensures) _ _ _ (d .one-page .ensures .1) (c .ended3 .result) (c .before .match3 .keys2) (c .ended3 .ensures)
 
 same-length-7 : tie.Need-same-length-7
 same-length-7 c = search needs
@@ -142,7 +142,7 @@ returns-4 c =
     let r = d .before .before .before .before .before .before .before .before in
     let p = r .before .before .before .before .before .before .before .before .before in
     write-ends _ _ _ _ _ _ _ _ _ _ _ (read (header p)) (p .create-page .ensures) _ _ (r .before .before .before .before .before .second .given .1) (r .before .before .before .with-page .ensures) _ _ (r .replace-header .ensures)
-    _ (d .before .before .before .before .third .given .1) _ (d .before .page-of .ensures) _ _ _ (d .destroy-one .ensures .1) _ (c .enum-told .given .1)
+    _ (d .before .before .before .before .third .given .1) _ (d .before .before .page-of .ensures) _ _ _ (d .one-page .ensures .1) _ (c .enum-told .given .1)
 
 pub write-opened-spec : {M : Type 1} → statement M
 write-opened-spec =
@@ -156,7 +156,7 @@ write-opened-spec =
     same-length
     same-length-2
     returns
-    cast-t24
+    cast-t25
     with-page-requires
     shared-slice-read-replace-header
     replace-header-requires
@@ -166,7 +166,7 @@ write-opened-spec =
     same-length-4
     returns-2
     page-of-requires
-    destroy-one-requires
+    one-page-requires
     enum-told
     ended-requires-3
     same-length-5

@@ -1,25 +1,24 @@
--- `set_pages`: from page k on, what is left of the row gives what the whole row gives.
+-- `each_page`: from page k on, what is left of the row gives what the whole row gives.
 use Prim.Native.Nat.{_-_, _≤_}
 use mathlib.Core.Path.{_≡_, refl, _∙_}
 use native.Mathlib.Omega.{arith}
 use lib.ListN.{length}
 use Rattle.paper.specs.Ids.{nullPageId}
-use Rattle.paper.specs.Stores.{setPageExpiry}
 use Rattle.paper.specs.Bytes.{psFrom}
 use Rattle.stores.specs.Geometry.{bank}
-use Rattle.rows.specs.Rows.{setEach}
+use Rattle.rows.specs.Rows.{deedOn, eachDeed}
 use Rattle.rows.proofs.PageRows.{named-at, Going, row-starts, row-goes-on, row-stops, row-ends}
 use borrow.Author.Needs.{needs}
-use Rattle.rows.proofs.set_pages.Statement.{statement}
-use Rattle.rows.proofs.set_pages.Tie as tie
+use Rattle.rows.proofs.each_page.Statement.{statement}
+use Rattle.rows.proofs.each_page.Tie as tie
 
 abbrev Inv-loop : tie.InvT-loop
-Inv-loop pages₀ slots size outcomes from expires pass ids taken₀ k₀ pages taken k =
+Inv-loop pages₀ slots size outcomes from deed pass ids taken₀ k₀ pages taken k =
     let b = bank slots size in
-    (k ≤ 16) × (length pages ≡ length pages₀) × Going pass (setPageExpiry b expires) outcomes from ids (psFrom b pages₀) k taken (psFrom b pages)
+    (k ≤ 16) × (length pages ≡ length pages₀) × Going pass (deedOn b deed) outcomes from ids (psFrom b pages₀) k taken (psFrom b pages)
 
 abbrev μ-loop : tie.MeasureT-loop
-μ-loop pages₀ slots size outcomes from expires pass ids taken₀ k₀ pages taken k = 16 - k
+μ-loop pages₀ slots size outcomes from deed pass ids taken₀ k₀ pages taken k = 16 - k
 
 loop-holds : tie.Need-loop-holds Inv-loop μ-loop
 loop-holds c = (omega arith, refl, row-starts _ _ _ _ _ _)
@@ -33,8 +32,8 @@ array-copy-out-p c = search needs
 sixteen : (s : tie.Start Inv-loop μ-loop) → length (s .args .t6) ≡ 16
 sixteen s = search needs
 
-set-one-requires : tie.Need-set-one-requires Inv-loop μ-loop
-set-one-requires c κs =
+one-page-requires : tie.Need-one-page-requires Inv-loop μ-loop
+one-page-requires c κs =
     let t = c .before .before in
     let l = t .before .loop in
     let s = t .before .before .before .before in (
@@ -49,12 +48,12 @@ same-length : tie.Need-same-length Inv-loop μ-loop
 same-length c = search needs
 
 returns : tie.Need-returns Inv-loop μ-loop
-unfolding setEach
+unfolding eachDeed
 returns c =
     let k = c .before .before .before in
     let t = k .before .before .before in
     let l = t .before .loop in
-    row-stops _ _ _ _ _ _ 16 (sixteen (t .before .before .before .before)) _ _ _ (l .inv .2) _ _ _ _ (t .loop-test .taken) (k .set-one .ensures) (c .match .keys2)
+    row-stops _ _ _ _ _ _ 16 (sixteen (t .before .before .before .before)) _ _ _ (l .inv .2) _ _ _ _ (t .loop-test .taken) (k .one-page .ensures) (c .match .keys2)
 
 add-k : tie.Need-add-k Inv-loop μ-loop
 add-k c = search needs
@@ -63,27 +62,27 @@ loop-less : tie.Need-loop-less Inv-loop μ-loop
 loop-less c = search needs
 
 loop-again : tie.Need-loop-again Inv-loop μ-loop
-unfolding setEach
+unfolding eachDeed
 loop-again c =
     let k = c .before .before .before .before in
     let t = k .before .before .before in
     let l = t .before .loop in (
       omega arith,
       search needs,
-      row-goes-on _ _ _ _ _ _ 16 (sixteen (t .before .before .before .before)) _ _ _ (l .inv .2) _ _ _ _ (t .loop-test .taken) (k .set-one .ensures) _ (c .enum-told .given .1),
+      row-goes-on _ _ _ _ _ _ 16 (sixteen (t .before .before .before .before)) _ _ _ (l .inv .2) _ _ _ _ (t .loop-test .taken) (k .one-page .ensures) _ (c .enum-told .given .1),
     )
 
 same-length-2 : tie.Need-same-length-2 Inv-loop μ-loop
 same-length-2 c = search needs
 
 returns-2 : tie.Need-returns-2 Inv-loop μ-loop
-unfolding setEach
+unfolding eachDeed
 returns-2 c =
     let l = c .before .loop in
     row-ends _ _ _ _ _ _ 16 (sixteen (c .before .before .before .before)) _ _ _ (l .inv .2) (l .inv .0) (c .loop-test .left)
 
-pub set-pages-spec : {M : Type 1} → statement M
-set-pages-spec =
+pub each-page-spec : {M : Type 1} → statement M
+each-page-spec =
     tie.close
     (tie.spec
     Inv-loop
@@ -91,7 +90,7 @@ set-pages-spec =
     loop-holds
     mul-p
     array-copy-out-p
-    set-one-requires
+    one-page-requires
     enum-told
     same-length
     returns
