@@ -1,3 +1,4 @@
+pub mod Searched
 pub mod Computing
 pub mod Sessions
 pub mod Marks

@@ -20,9 +20,10 @@ use Rattle.paper.specs.Tables.{Bank, HS, PS, headerSlots, headerAt, headerFree,
 use Rattle.paper.specs.Stores.{Try, gone, no, fullSlot, hasId, readHeader, createHeader, replaceHeader, destroyHeader, createPage, readPage, scavengeHeaders, scavengePages}
 use Rattle.paper.specs.Steps.{done, attempt}
 use Rattle.paper.specs.Bytes.{headerFrom, hsFrom, psFrom}
+use Rattle.paper.proofs.Searched.{page-none, page-at}
 use Rattle.records.proofs.Places.{header-place}
 use Rattle.stores.specs.Geometry.{bank}
-use Rattle.stores.proofs.Slots.{create-at as page-at, create-none as page-none, found-slot as page-slot}
+use Rattle.stores.proofs.Slots.{found-slot as page-slot}
 use Rattle.rows.proofs.Steps.{went}
 use Rattle.rows.proofs.Told.{Refusal}
 

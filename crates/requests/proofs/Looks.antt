@@ -15,7 +15,7 @@ use Rattle.paper.specs.Stores.{hasId, readPage}
 use Rattle.paper.specs.Steps.{tried, attempt, inHeaders, inPages, follow, _>>=_, _>>_, give, refuse, ask, check, attempted, settle, step}
 use Rattle.paper.specs.Answers.{Read}
 use Rattle.paper.specs.Requests.{read, stepsOf, replyOf, carryOut}
-use Rattle.stores.proofs.HeaderSlots.{read-none, read-at}
+use Rattle.paper.proofs.Searched.{read-none, read-at}
 use Rattle.requests.specs.Seen.{looked}
 use Rattle.rows.specs.Rows.{clocked}
 

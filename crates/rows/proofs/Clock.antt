@@ -13,7 +13,7 @@ use Rattle.records.proofs.Records.{control-fits}
 use Rattle.records.proofs.Places.{control-put}
 use Rattle.rows.specs.Rows.{clocked}
 
-clock-fits : (c : Control) (spare time : ℕ) → time < 2 ^ 32 → ControlFits c spare → ControlFits (record { next = c .next; clock = time }) spare
+pub clock-fits : (c : Control) (spare time : ℕ) → time < 2 ^ 32 → ControlFits c spare → ControlFits (record { next = c .next; clock = time }) spare
 clock-fits c spare time h (one n (one k s)) = one n (one h s)
 
 pub clock-put : (xs ys : List ℕ) (c : Control) (time : ℕ) → time < 2 ^ 32 → c ≡ controlFrom (take 36 xs)

@@ -21,7 +21,8 @@ use Rattle.paper.specs.Stores.{gone, hasId, readHeader}
 use Rattle.paper.specs.Steps.{done, attempt, State, Run, on, end, Steps, follow, _>>=_, _>>_, give, refuse, ask, check, settle}
 use Rattle.paper.specs.Requests.{headerIn, checkOwner}
 use Rattle.paper.specs.Bytes.{hsFrom}
-use Rattle.stores.proofs.HeaderSlots.{found-slot, read-none, read-at}
+use Rattle.paper.proofs.Searched.{read-none, read-at}
+use Rattle.stores.proofs.HeaderSlots.{found-slot}
 use Rattle.rows.specs.Ends.{standing}
 use Rattle.rows.specs.Rows.{opening}
 use Rattle.rows.proofs.Steps.{header-step, leads, ends, went}

@@ -1,4 +1,4 @@
-mod Admission
+pub mod Admission
 pub mod Exact
 mod Looking
 pub mod Unique

@@ -16,8 +16,8 @@ use Rattle.paper.specs.declared.Found.{Found}
 use Rattle.paper.specs.declared.Found.the-variants.{At, Nothing}
 use Rattle.paper.specs.Ids.{noMoreIds}
 use Rattle.paper.specs.Lists.{lowest}
-use Rattle.paper.specs.Tables.{HS, headerSlots, headerAt, headerFree, headerExpired, noHeader, putHeader, withControl, withHeaders}
-use Rattle.paper.specs.Stores.{gone, no, issued, named, hasId, readHeader, createHeader, replaceHeader, destroyHeader, scavengeHeaders}
+use Rattle.paper.specs.Tables.{headerSlots, headerAt, headerFree, headerExpired, noHeader, putHeader, withControl, withHeaders}
+use Rattle.paper.specs.Stores.{gone, no, issued, named, hasId, replaceHeader, destroyHeader, scavengeHeaders}
 use Rattle.paper.specs.Bytes.{recordSize, headersLength, headerLayout, headerValues, controlBytes, controlFrom, spareFrom, headerBytes, headerFrom, parts, hsFrom}
 use Rattle.bits.specs.Field.{splice}
 use Rattle.bits.specs.Field.Within.{one}
@@ -90,26 +90,6 @@ module _ (f : Header → Bool) (xs : List ℕ) where
   pub found-slot : (n : ℕ) → lowest f (hsFrom xs .headers) ≡ At n → (1 ≤ n) × (n ≤ headerSlots)
   found-slot n e = let i = lowest-within f n (hsFrom xs .headers) e in (i .0, omega (arith, slots xs))
 
--- a read and a create by what the search found
-module _ (t : ℕ) (s : HS) where
-  module _ (id : FileId) where
-    pub read-none : lowest (hasId t id) (s .headers) ≡ Nothing → readHeader t id s ≡ no 4
-    unfolding readHeader
-    read-none e = rw (e, readHeader)
-
-    pub read-at : (n : ℕ) → lowest (hasId t id) (s .headers) ≡ At n → readHeader t id s ≡ gone n s
-    unfolding readHeader
-    read-at n e = rw (e, readHeader)
-
-  module _ (h : Header) where
-    pub create-none : lowest (headerFree t) (s .headers) ≡ Nothing → createHeader t h s ≡ no 7
-    unfolding createHeader
-    create-none e = rw (e, createHeader)
-
-    pub create-at : (n : ℕ) → lowest (headerFree t) (s .headers) ≡ At n → createHeader t h s ≡ replaceHeader n h s
-    unfolding createHeader
-    create-at n e = rw (e, createHeader)
-
 pub zeros-fit : HeaderFits noHeader
 zeros-fit = within-test headerLayout (headerValues noHeader) tt
 
@@ -162,7 +142,7 @@ module _ (time : ℕ) (xs : List ℕ) where
 pub named-fits : (id : FileId) (h : Header) → HeaderFits h → id .0 < noMoreIds → HeaderFits (named id h)
 named-fits id h (one u (one i r)) l = let z : id .0 < 2 ^ 31 = omega arith in one u (one z r)
 
-issued-fits : (c : Control) (spare : ℕ) → ControlFits c spare → c .next < noMoreIds → ControlFits (issued c .control) spare
+pub issued-fits : (c : Control) (spare : ℕ) → ControlFits c spare → c .next < noMoreIds → ControlFits (issued c .control) spare
 issued-fits c spare (one n r) l = let z : c .next + 1 < 2 ^ 32 = omega arith in one z r
 
 pub issued-below : (c : Control) (i : Issued) → i ≡ issued c → c .next < noMoreIds → i .id .0 < noMoreIds

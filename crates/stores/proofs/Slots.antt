@@ -13,11 +13,11 @@ use Rattle.bits.specs.Field.{pack, splice, Bytes}
 use Rattle.bits.specs.Field.Within.{none, one}
 use Rattle.bits.proofs.Within.{within-head, within-tail, within-test}
 use Rattle.bits.proofs.Cover.{bytes-take, bytes-drop}
-use Rattle.paper.specs.declared.Found.the-variants.{At, Nothing}
+use Rattle.paper.specs.declared.Found.the-variants.{At}
 use Rattle.paper.specs.Ids.{pageId}
 use Rattle.paper.specs.Lists.{lowest}
-use Rattle.paper.specs.Tables.{Bank, Slot, PS, noSlot, slotFree, slotExpired, slotAt, putSlot}
-use Rattle.paper.specs.Stores.{gone, no, fullSlot, expiring, createPage, scavengePages}
+use Rattle.paper.specs.Tables.{Bank, Slot, noSlot, slotFree, slotExpired, slotAt, putSlot}
+use Rattle.paper.specs.Stores.{gone, fullSlot, expiring, scavengePages}
 use Rattle.paper.specs.Bytes.{slotLayout, slotSize, slotBytes, slotFrom, parts, psFrom}
 use Rattle.records.specs.declared.SlotHead.{SlotHead}
 use Rattle.records.specs.Fits.{SlotFits, headOf}
@@ -68,7 +68,7 @@ zeros-bytes zero i = omega arith
 zeros-bytes (suc n) zero = omega arith
 zeros-bytes (suc n) (suc i) = zeros-bytes n i
 
-no-slot-fits : (b : Bank) → SlotFits b (noSlot b)
+pub no-slot-fits : (b : Bank) → SlotFits b (noSlot b)
 no-slot-fits b = record {
   values = within-test slotLayout (0 ∷ 0 ∷ 0 ∷ []) tt;
   contents = zeros-bytes (b .size);
@@ -79,13 +79,13 @@ pub no-slot-bytes : (b : Bank) → slotBytes (noSlot b) ≡ replicate (slotSize 
 unfolding slotBytes pack
 no-slot-bytes b = replicate-append-replicate 8 (b .size) 0
 
-full-slot-fits : (b : Bank) (e : ℕ) (page : List ℕ) → e < 2 ^ 32 → Bytes page → length page ≡ b .size → SlotFits b (fullSlot page e)
+pub full-slot-fits : (b : Bank) (e : ℕ) (page : List ℕ) → e < 2 ^ 32 → Bytes page → length page ≡ b .size → SlotFits b (fullSlot page e)
 full-slot-fits b e page f bytes l =
     let used : 1 < 2 ^ 1 = omega arith in
     let spare : 0 < 2 ^ 31 = omega arith in
     record { values = one used (one spare (one f none)); contents = bytes; size = l }
 
-expiring-fits : (b : Bank) (e : ℕ) (s : Slot) → e < 2 ^ 32 → SlotFits b s → SlotFits b (expiring e s)
+pub expiring-fits : (b : Bank) (e : ℕ) (s : Slot) → e < 2 ^ 32 → SlotFits b s → SlotFits b (expiring e s)
 expiring-fits b e s f fits = record {
   values = one (within-head (fits .values)) (one (within-head (within-tail (fits .values))) (one f none));
   contents = fits .contents;
@@ -130,15 +130,6 @@ module _ {slots size : ℕ} {xs : List ℕ} (g : Geometry slots size xs) (n : �
       let part = take (8 + size) (drop a xs) in
       put (expiring e (slotFrom part)) (expiring-fits b e (slotFrom part) f (slot-fits b part (bytes-take (8 + size) (drop a xs) (bytes-drop a xs bytes)) length-part))
       ∙ ap (λ (s : Slot). putSlot (pageId n) (expiring e s) (psFrom b xs)) (sym (slot-place b xs n lo hi))
-
-module _ (time e : ℕ) (page : List ℕ) (ps : PS) where
-  pub create-none : lowest (slotFree time) ps ≡ Nothing → createPage time page e ps ≡ no 7
-  unfolding createPage
-  create-none h = rw (createPage, h)
-
-  pub create-at : (n : ℕ) → lowest (slotFree time) ps ≡ At n → createPage time page e ps ≡ gone n (putSlot (pageId n) (fullSlot page e) ps)
-  unfolding createPage
-  create-at n h = rw (createPage, h)
 
 -- the slot that a search found is one of the table
 pub found-slot : (slots size time : ℕ) (xs : List ℕ) (n : ℕ) → lowest (slotFree time) (psFrom (bank slots size) xs) ≡ At n → (1 ≤ n) × (n ≤ slots)

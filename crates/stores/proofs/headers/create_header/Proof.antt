@@ -6,8 +6,9 @@ use Rattle.paper.specs.declared.Found.the-variants.{At}
 use Rattle.paper.specs.Lists.{lowest}
 use Rattle.paper.specs.Tables.{headerFree}
 use Rattle.paper.specs.Bytes.{hsFrom}
+use Rattle.paper.proofs.Searched.{header-none, header-at}
 use Rattle.stores.proofs.Outcomes.{goes-not, outcomes, as-step}
-use Rattle.stores.proofs.HeaderSlots.{found-slot, create-none, create-at}
+use Rattle.stores.proofs.HeaderSlots.{found-slot}
 use borrow.Author.Needs.{needs}
 use Rattle.stores.proofs.headers.create_header.Statement.{statement}
 use Rattle.stores.proofs.headers.create_header.Tie as tie
@@ -27,7 +28,7 @@ same-length c = search needs
 returns : tie.Need-returns
 returns c =
     let f = c .before .before .lowest-free-header in
-    goes-not _ _ _ 7 (c .before .before .before .before .match .keys1) (create-none _ _ _ (sym (f .ensures) ∙ c .enum-told .given .1))
+    goes-not _ _ _ 7 (c .before .before .before .before .match .keys1) (header-none _ _ _ (sym (f .ensures) ∙ c .enum-told .given .1))
 
 abbrev start : tie.After-known-told → tie.Start
 start c = c .before .before .before .before .before .before .before
@@ -48,7 +49,7 @@ same-length-2 c = search needs
 returns-2 : tie.Need-returns-2
 returns-2 c =
     let k = c .before .before .before .before in
-    as-step _ _ _ _ _ (k .before .before .before .before .before .match .keys1) (create-at _ _ _ _ (found k)) (c .before .before .store-header .ensures)
+    as-step _ _ _ _ _ (k .before .before .before .before .before .match .keys1) (header-at _ _ _ _ (found k)) (c .before .before .store-header .ensures)
 
 returns-3 : tie.Need-returns-3
 returns-3 c = search (needs, outcomes)

@@ -6,8 +6,9 @@ use Rattle.paper.specs.declared.Found.the-variants.{At}
 use Rattle.paper.specs.Lists.{lowest}
 use Rattle.paper.specs.Stores.{hasId}
 use Rattle.paper.specs.Bytes.{hsFrom}
+use Rattle.paper.proofs.Searched.{read-none, read-at}
 use Rattle.stores.proofs.Outcomes.{goes, goes-not, outcomes}
-use Rattle.stores.proofs.HeaderSlots.{found-slot, read-none, read-at}
+use Rattle.stores.proofs.HeaderSlots.{found-slot}
 use borrow.Author.Needs.{needs}
 use Rattle.stores.proofs.headers.read_header.Statement.{statement}
 use Rattle.stores.proofs.headers.read_header.Tie as tie

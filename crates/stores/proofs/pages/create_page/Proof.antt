@@ -8,8 +8,9 @@ use Rattle.paper.specs.Lists.{lowest}
 use Rattle.paper.specs.Tables.{slotFree}
 use Rattle.paper.specs.Stores.{gone}
 use Rattle.paper.specs.Bytes.{psFrom}
+use Rattle.paper.proofs.Searched.{page-none, page-at}
 use Rattle.stores.specs.Geometry.{bank}
-use Rattle.stores.proofs.Slots.{slot-room, filled, create-none, create-at, found-slot}
+use Rattle.stores.proofs.Slots.{slot-room, filled, found-slot}
 use Rattle.stores.proofs.Outcomes.{goes, goes-not, outcomes}
 use borrow.Author.Needs.{needs}
 use Rattle.stores.proofs.pages.create_page.Statement.{statement}
@@ -30,7 +31,7 @@ same-length c = search needs
 returns : tie.Need-returns
 returns c =
     let f = c .before .before .lowest-free-slot in
-    goes-not _ _ _ 7 (c .before .before .before .before .match .keys1) (create-none _ _ _ _ (sym (f .ensures) ∙ c .enum-told .given .1))
+    goes-not _ _ _ 7 (c .before .before .before .before .match .keys1) (page-none _ _ _ _ (sym (f .ensures) ∙ c .enum-told .given .1))
 
 abbrev start : tie.After-known-told → tie.Start
 start c = c .before .before .before .before .before .before .before .before
@@ -66,7 +67,7 @@ returns-2 c =
     let a = s .args in
     let b = bank (a .slots) (a .size) in
     goes _ _ _ _ _ (k .before .before .before .before .before .match .keys1)
-    (create-at _ _ _ _ _ (found k)
+    (page-at _ _ _ _ _ (found k)
     ∙ ap (gone (k .before .n .given .0 .0))
     (sym (ap (psFrom b) (c .before .before .put-slot .ensures)
     ∙ filled (s .pre .0) _ (here k .0) (here k .1) (a .expires) (now (a .page)) (expires-fit s) (λ i. k .before .before .before .before .before .before .shared-slice-known .given i .fits) (s .pre .1))))
