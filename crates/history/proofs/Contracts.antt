@@ -15,7 +15,7 @@ use Rattle.service.proofs.info.Reads as info
 use Rattle.service.proofs.destroy.Reads as destroy
 use Rattle.service.proofs.set_expiry.Reads as set-expiry
 use Rattle.service.proofs.scavenge.Reads as scavenge
-use Rattle.history.specs.History.{formats, asks, Seen, Given, Allowed}
+use Rattle.history.specs.History.{formats, asks, Given, Allowed}
 
 pub format-allowed : (κs : Lfts 2) (a r s : _) → format.Learnt κs a r s
     → Allowed standard (now (a .0)) (now (a .1 .0)) (record { asked = formats; answer = r; page = []; headers = now (s .0); pages = now (s .1 .0) }) formats
