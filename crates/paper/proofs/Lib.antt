@@ -2,6 +2,7 @@ pub mod Searched
 pub mod Computing
 pub mod Sessions
 pub mod Marks
+pub mod Compared
 pub mod Beside
 pub mod Bytes
 pub mod Damage
