@@ -21,3 +21,4 @@ pub mod Aged
 pub mod SetExpiry
 pub mod Scavenge
 pub mod Requests
+pub mod Unchanged
