@@ -24,7 +24,7 @@ use Rattle.records.specs.Fits.{HeaderFits}
 use Rattle.records.proofs.Tables.{hs-read, hs-written, hs-fits, ps-read, ps-written, ps-fits}
 use Rattle.plain.specs.Demand.{Kept}
 use Rattle.history.specs.History.{Given, Buffers}
-use Rattle.plain.proofs.Lists.{and-true}
+use Rattle.paper.proofs.Tests.{both}
 use Rattle.plain.proofs.Requests.{nothing-lost}
 use Rattle.history.proofs.Ranges.{Fit, header-fits}
 use Rattle.history.proofs.Fitting.{carried-out-fits}
@@ -47,7 +47,7 @@ module _ (b : Bank) (now : ℕ) (os : List ℕ) (q : Request) (t : Tables) where
   way ok = go (wellFormed b q && outcomesFit os) refl (leb (clockOf t) now) refl
     where
       go : (u : Bool) → wellFormed b q && outcomesFit os ≡ u → (v : Bool) → leb (clockOf t) now ≡ v → Way b now q t (checked b now os q t)
-      go true e true l = carried (rw (e, ok, l)) (and-true _ (outcomesFit os) e .0) (leb-true _ _ l)
+      go true e true l = carried (rw (e, ok, l)) (both _ (outcomesFit os) e .0) (leb-true _ _ l)
       go true e false l = rw (e, ok, l) (turned (omega arith) (omega arith))
       go false e v l = rw e (turned (omega arith) (omega arith))
 

@@ -7,7 +7,7 @@ use lib.ListN.{set, take, replicate}
 use Rattle.paper.specs.Ids.{fileId, pageNum}
 use Rattle.paper.specs.Tables.{Bank}
 use Rattle.paper.specs.Answers.{refused}
-use Rattle.paper.specs.Service.{Left, serveBytes, format, look}
+use Rattle.paper.specs.Service.{Left, serveBytes, format, look, lookSlot}
 use Rattle.paper.specs.Sessions.{Call, at, failing, first, runBytes, formatted, shows, pageA, createA, writeB, readOf}
 use Rattle.paper.proofs.Computing.{computing}
 
@@ -37,24 +37,35 @@ unfolding computing
 made-bytes = (refl, refl)
 
 -- Look: the page till 99; the blank at its expiry, at another number, id or length, below the clock, in damage
+abbrev asked : {A : Type 0} → (ℕ → ℕ → ℕ → List ℕ → List ℕ → A) → List ℕ → List ℕ → List A
+asked f headers pages =
+    f 99 1 0 headers pages
+    ∷ f 100 1 0 headers pages
+    ∷ f 99 1 1 headers pages
+    ∷ f 99 1 16 headers pages
+    ∷ f 99 2 0 headers pages
+    ∷ f 9 1 0 headers pages
+    ∷ f 99 1 0 headers (0 ∷ pages)
+    ∷ f 99 1 0 (set headers 35 1) pages
+    ∷ []
+
 abbrev looked : ℕ → ℕ → ℕ → List ℕ → List ℕ → List ℕ
 looked now id number headers pages = look tiny now (fileId id) (pageNum number) (1 ∷ 2 ∷ []) headers pages
 
-abbrev looksAt : List ℕ → List ℕ → List (List ℕ)
-looksAt headers pages =
-    looked 99 1 0 headers pages
-    ∷ looked 100 1 0 headers pages
-    ∷ looked 99 1 1 headers pages
-    ∷ looked 99 1 16 headers pages
-    ∷ looked 99 2 0 headers pages
-    ∷ looked 9 1 0 headers pages
-    ∷ looked 99 1 0 headers (0 ∷ pages)
-    ∷ looked 99 1 0 (set headers 35 1) pages
-    ∷ []
-
-pub looks : looksAt (made .headers) (made .pages) ≡ pageA tiny ∷ replicate 7 (1 ∷ 2 ∷ [])
+pub looks : asked looked (made .headers) (made .pages) ≡ pageA tiny ∷ replicate 7 (1 ∷ 2 ∷ [])
 unfolding computing
 looks = refl
+
+-- the same by where the page lies; after a Write it lies in slot 2, of the header in slot 1
+abbrev lying : ℕ → ℕ → ℕ → List ℕ → List ℕ → ℕ
+lying now id number headers pages = lookSlot tiny now (fileId id) (pageNum number) headers pages .0
+
+abbrev rewritten : Left
+rewritten = serveBytes tiny 20 (replicate 18 0) (writeB tiny 7 1) (made .headers) (made .pages)
+
+pub lies : (asked lying (made .headers) (made .pages) ≡ 1 ∷ replicate 7 0) × (lying 20 2 0 (rewritten .headers) (rewritten .pages) ≡ 2)
+unfolding computing
+lies = (refl, refl)
 
 -- at a wrong length, the very same bytes
 abbrev same : List ℕ → List ℕ → List ℕ → Left

@@ -1,4 +1,5 @@
 pub mod Searched
+pub mod Tests
 pub mod Computing
 pub mod Sessions
 pub mod Marks

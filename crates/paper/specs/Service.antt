@@ -5,12 +5,16 @@ use mathlib.Core.List.{List, []}
 use lib.ListN.{length, replicate}
 use lib.Dec.{eqb}
 use Rattle.paper.specs.declared.FileId.{FileId}
+use Rattle.paper.specs.declared.PageId.{PageId}
 use Rattle.paper.specs.declared.PageNum.{PageNum}
-use Rattle.paper.specs.Lists.{isZero}
-use Rattle.paper.specs.Tables.{Bank, fresh}
+use Rattle.paper.specs.declared.Found.the-variants.{At, Nothing}
+use Rattle.paper.specs.Ids.{nullPageId}
+use Rattle.paper.specs.Lists.{isZero, lowest}
+use Rattle.paper.specs.Tables.{Bank, HS, fresh, headerAt, getPageId}
+use Rattle.paper.specs.Stores.{hasId}
 use Rattle.paper.specs.Answers.{Request, Read, lentPage, Report, nothing, succeeded, refused}
 use Rattle.paper.specs.Requests.{Reply, carryOut, checked}
-use Rattle.paper.specs.Bytes.{headersLength, pagesLength, tablesFrom, headerTable, pageTable}
+use Rattle.paper.specs.Bytes.{headersLength, pagesLength, hsFrom, tablesFrom, headerTable, pageTable}
 
 pub record Left : Type 0 where
   pub report : Report
@@ -50,3 +54,14 @@ unfoldable pub look : Bank → ℕ → FileId → PageNum → List ℕ → List 
 look b now id number blank headers pages =
     let r = serveBytes b now (replicate 18 0) (Read id number (replicate (b .size) 0)) headers pages in
     cond (isZero (r .report .number)) (r .page) blank
+
+-- the page id that the live header with this id has at the number, NullPageId where there is none
+unfoldable pub namedPage : ℕ → FileId → PageNum → HS → PageId
+namedPage now id number s = elim (lowest (hasId now id) (s .headers)) [ At n ↦ getPageId (headerAt s n) number | Nothing ↦ nullPageId ]
+
+-- Where the page lies that Look answers: its slot; NullPageId for the blank.
+unfoldable pub lookSlot : Bank → ℕ → FileId → PageNum → List ℕ → List ℕ → PageId
+lookSlot b now id number headers pages =
+    cond (isZero (refusal b now (replicate 18 0) (Read id number (replicate (b .size) 0)) headers pages))
+    (namedPage now id number (hsFrom headers))
+    nullPageId

@@ -22,7 +22,8 @@ use Rattle.paper.specs.Plain.{deed, plainCreate, withPage}
 use Rattle.paper.specs.View.{pageShown, view}
 use Rattle.paper.proofs.Searched.{header-none, header-at}
 use Rattle.plain.specs.Demand.{NothingLost}
-use Rattle.plain.proofs.Lists.{and-true, Search, search-of, at-replicate}
+use Rattle.paper.proofs.Tests.{both}
+use Rattle.plain.proofs.Lists.{Search, search-of, at-replicate}
 use Rattle.plain.proofs.Facts.{Live}
 use Rattle.plain.proofs.Shown.{filesOf, miss-test}
 use Rattle.plain.proofs.Stored.{From, Storable, stores}
@@ -34,7 +35,7 @@ use Rattle.plain.proofs.Closing.{jobOf, Row, nothing-lost-by}
 -- a page's number is at most 15
 pub page-number : (b : Bank) (number : PageNum) (page : List ℕ) → pageFits b number page ≡ true → number .0 ≤ 15
 unfolding pageFits
-page-number b number page e = leb-true _ _ (and-true (leb (number .0) 15) (eqb (length page) (b .size)) e .0)
+page-number b number page e = leb-true _ _ (both (leb (number .0) 15) (eqb (length page) (b .size)) e .0)
 
 -- a header without pages may be stored in a free slot
 no-page : (m : ℕ) → getD noPages m nullPageId .0 ≡ 0

@@ -9,7 +9,8 @@ use borrow.Author.Tests.{eq-eqb, ne-eqb}
 use lib.ListN.{getD}
 use lib.Dec.{eqb}
 use Rattle.paper.specs.Lists.{those, absent, distinct}
-use Rattle.plain.proofs.Lists.{and-true, both-true}
+use Rattle.paper.proofs.Tests.{both}
+use Rattle.plain.proofs.Lists.{both-true}
 
 -- v stands in the list
 pub data In (v : ℕ) : List ℕ → Type 0 where
@@ -21,9 +22,9 @@ only (here e) = e
 
 absent-in : (v : ℕ) {ys : List ℕ} → absent v ys ≡ true → In v ys → ⊥
 absent-in v e (here {y = y} {ys = ys} p) =
-    let z : not (eqb v y) ≡ true = and-true _ (absent v ys) e .0 in
+    let z : not (eqb v y) ≡ true = both _ (absent v ys) e .0 in
     true≢false (sym z ∙ rw (eq-eqb v y p))
-absent-in v e (there {y = y} {ys = ys} i) = absent-in v (and-true (not (eqb v y)) (absent v ys) e .1) i
+absent-in v e (there {y = y} {ys = ys} i) = absent-in v (both (not (eqb v y)) (absent v ys) e .1) i
 
 in-absent : (v : ℕ) (ys : List ℕ) → (In v ys → ⊥) → absent v ys ≡ true
 in-absent v [] f = refl
@@ -61,7 +62,7 @@ distinct-apart [] ys e = record { front = refl; back = e; none = λ v i. nowhere
   where
     nowhere : {v : ℕ} → In v [] → In v ys → ⊥
     nowhere i = elim i [ ]
-distinct-apart (x ∷ xs) ys e = go (and-true (absent x (xs ++ ys)) (distinct (xs ++ ys)) e) (distinct-apart xs ys (and-true (absent x (xs ++ ys)) (distinct (xs ++ ys)) e .1))
+distinct-apart (x ∷ xs) ys e = go (both (absent x (xs ++ ys)) (distinct (xs ++ ys)) e) (distinct-apart xs ys (both (absent x (xs ++ ys)) (distinct (xs ++ ys)) e .1))
   where
     go : (absent x (xs ++ ys) ≡ true) × (distinct (xs ++ ys) ≡ true) → Apart xs ys → Apart (x ∷ xs) ys
     go p r = record {
@@ -77,12 +78,12 @@ distinct-apart (x ∷ xs) ys e = go (and-true (absent x (xs ++ ys)) (distinct (x
 apart-distinct : (xs ys : List ℕ) → Apart xs ys → distinct (xs ++ ys) ≡ true
 apart-distinct [] ys r = r .back
 apart-distinct (x ∷ xs) ys r =
-    let f = and-true (absent x xs) (distinct xs) (r .front) in
+    let f = both (absent x xs) (distinct xs) (r .front) in
     both-true (absent x (xs ++ ys)) (distinct (xs ++ ys)) (in-absent x (xs ++ ys) (λ i. side (in-side x xs ys i)))
     (apart-distinct xs ys (record { front = f .1; back = r .back; none = λ v i. r .none v (there i) }))
   where
     side : Side x xs ys → ⊥
-    side (left i) = absent-in x (and-true (absent x xs) (distinct xs) (r .front) .0) i
+    side (left i) = absent-in x (both (absent x xs) (distinct xs) (r .front) .0) i
     side (right i) = r .none x (here refl) i
 
 -- the rows of the elements that pass, one after the other

@@ -13,7 +13,8 @@ use Rattle.paper.specs.Ids.{nullPageId, noMoreIds}
 use Rattle.paper.specs.Lists.{numbered}
 use Rattle.paper.specs.Tables.{Bank, Slot, PS, Tables, noHeader, noSlot, clockOf, headerAt, live}
 use Rattle.paper.specs.Sound.{zeroHeader, slotSound}
-use Rattle.plain.proofs.Lists.{and-true, numbered-in}
+use Rattle.paper.proofs.Tests.{both}
+use Rattle.plain.proofs.Lists.{numbered-in}
 
 -- the page id at a page number, and the slot of a page id, as numbers
 abbrev pub pageAt : Header → ℕ → ℕ
@@ -76,7 +77,7 @@ pub record Facts (b : Bank) (t : Tables) : Type 0 where
 
 module _ (c : ℕ) (h : Header) where
   pub live-facts : live c h ≡ true → Live c h
-  live-facts e = let p = and-true (h .used) (ltb c (h .expires)) e in record { used = p .0; until = ltb-true c (h .expires) (p .1) }
+  live-facts e = let p = both (h .used) (ltb c (h .expires)) e in record { used = p .0; until = ltb-true c (h .expires) (p .1) }
 
   pub live-test : Live c h → live c h ≡ true
   live-test l = rw (l .used, lt-ltb c (h .expires) (l .until))

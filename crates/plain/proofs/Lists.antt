@@ -10,21 +10,18 @@ use native.Mathlib.Omega.{arith}
 use lib.ListN.{length, getD, set, replicate, length-set, List·getD-map, List·getD-eq-default}
 use lib.Seq.{getD-set-same, getD-set-other}
 use Rattle.paper.specs.declared.Found.the-variants.{At, Nothing}
+use Rattle.paper.proofs.Tests.{both}
 use Rattle.paper.specs.Lists.{all, lowestFrom, lowest, numbered, putAt}
-
-pub and-true : (a c : Bool) → a && c ≡ true → (a ≡ true) × (c ≡ true)
-and-true true c e = (refl, e)
-and-true false c e = absurd (true≢false (sym e))
 
 pub both-true : (a c : Bool) → a ≡ true → c ≡ true → a && c ≡ true
 both-true a c p q = rw p q
 
 module _ {A : Type 0} (f : A → Bool) (d : A) where
   -- a test that passes at every element passes at every index, where it passes at the default
-  pub all-at : f d ≡ true → (xs : List A) → all f xs ≡ true → (i : ℕ) → f (getD xs i d) ≡ true
-  all-at z [] e i = z
-  all-at z (x ∷ xs) e zero = and-true (f x) (all f xs) e .0
-  all-at z (x ∷ xs) e (suc i) = all-at z xs (and-true (f x) (all f xs) e .1) i
+  pub all-anywhere : f d ≡ true → (xs : List A) → all f xs ≡ true → (i : ℕ) → f (getD xs i d) ≡ true
+  all-anywhere z [] e i = z
+  all-anywhere z (x ∷ xs) e zero = both (f x) (all f xs) e .0
+  all-anywhere z (x ∷ xs) e (suc i) = all-anywhere z xs (both (f x) (all f xs) e .1) i
 
   pub all-by : (xs : List A) → ((i : ℕ) → f (getD xs i d) ≡ true) → all f xs ≡ true
   all-by [] g = refl
@@ -33,7 +30,7 @@ module _ {A : Type 0} (f : A → Bool) (d : A) where
   pub all-numbered : f d ≡ true → (xs : List A) → all f xs ≡ true → (n : ℕ) → f (numbered d xs n) ≡ true
   unfolding numbered
   all-numbered z xs e zero = z
-  all-numbered z xs e (suc i) = all-at z xs e i
+  all-numbered z xs e (suc i) = all-anywhere z xs e i
 
   pub numbered-all : (xs : List A) → ((n : ℕ) → f (numbered d xs n) ≡ true) → all f xs ≡ true
   unfolding numbered

@@ -21,7 +21,8 @@ use Rattle.paper.specs.Requests.{stepsOf, scavenge}
 use Rattle.paper.specs.Plain.{deed}
 use Rattle.paper.specs.View.{view}
 use Rattle.plain.specs.Demand.{NothingLost}
-use Rattle.plain.proofs.Lists.{and-true, numbered-map}
+use Rattle.paper.proofs.Tests.{both}
+use Rattle.plain.proofs.Lists.{numbered-map}
 use Rattle.plain.proofs.Facts.{slotOf, Live, Backs, HeaderFacts, Backed, IdOnce, PageOnce, Facts, LiveAt, pageIn}
 use Rattle.plain.proofs.Sound.{zeros-zero, zeros-slot}
 use Rattle.plain.proofs.Shown.{Hit, Look, look, filesOf, files-at, files-none, same-view}
@@ -39,7 +40,7 @@ sweeps : (c : ℕ) (h : Header) → Swept c h (cond (headerExpired c h) noHeader
 sweeps c h = go (headerExpired c h) refl
   where
     go : (u : Bool) → headerExpired c h ≡ u → Swept c h (cond u noHeader h)
-    go true e = zeroed refl (λ l. omega (arith, leb-true (h .expires) c (and-true (h .used) (leb (h .expires) c) e .1), l .until))
+    go true e = zeroed refl (λ l. omega (arith, leb-true (h .expires) c (both (h .used) (leb (h .expires) c) e .1), l .until))
     go false e = same refl
 
 module _ (b : Bank) (t : Tables) (hs : List Header) (f : Facts b t) (sw : (n : ℕ) → Swept (clockOf t) (headerAt (t .hs) n) (numbered noHeader hs n)) where

@@ -14,7 +14,8 @@ use Rattle.paper.specs.Tables.{Bank, Tables, noHeader, clockOf, headerAt, live}
 use Rattle.paper.specs.Stores.{hasId}
 use Rattle.paper.specs.Plain.{File}
 use Rattle.paper.specs.View.{fileShown, fileFound, view}
-use Rattle.plain.proofs.Lists.{and-true, Search, search-of}
+use Rattle.paper.proofs.Tests.{both}
+use Rattle.plain.proofs.Lists.{Search, search-of}
 use Rattle.plain.proofs.Facts.{Live, Facts, live-facts, live-test, used-in}
 
 -- a live header with the id
@@ -25,7 +26,7 @@ pub record Hit (c : ℕ) (x : FileId) (h : Header) : Type 0 where
 module _ (c : ℕ) (x : FileId) (h : Header) where
   pub hit-facts : hasId c x h ≡ true → Hit c x h
   hit-facts e =
-      let p = and-true (live c h) (eqb (h .id .0) (x .0)) e in
+      let p = both (live c h) (eqb (h .id .0) (x .0)) e in
       record { live = live-facts c h (p .0); same = eqb-true _ _ (p .1) }
 
   pub hit-test : Hit c x h → hasId c x h ≡ true

@@ -16,7 +16,8 @@ use Rattle.paper.specs.Ids.{nullPageId, noMoreIds}
 use Rattle.paper.specs.Lists.{all, those, distinct, isZero, numbered}
 use Rattle.paper.specs.Tables.{Bank, PS, Tables, noHeader, noSlot, live, headerAt}
 use Rattle.paper.specs.Sound.{S1, S2, S3, S4, S5, sound, zeroHeader, goodHeader, headerSound, zeroSlot, slotSound, held, pageIds}
-use Rattle.plain.proofs.Lists.{and-true, both-true, all-at, all-by, all-numbered, numbered-all, at-replicate}
+use Rattle.paper.proofs.Tests.{both}
+use Rattle.plain.proofs.Lists.{both-true, all-anywhere, all-by, all-numbered, numbered-all, at-replicate}
 use Rattle.plain.proofs.Distinct.{In, only, flat, in-flat, flat-once, once-flat, flat-in, single, map-those, those-map}
 use Rattle.plain.proofs.Facts.{pageAt, slotOf, InUse, HeaderFacts, Backs, Backed, IdOnce, PageOnce, Facts, live-facts, live-test, not-live}
 
@@ -26,11 +27,11 @@ module _ (b : Bank) (c : Control) (h : Header) where
   good-facts : length (h .pages) ≡ 16 → goodHeader b c h ≡ true → InUse b c h
   unfolding goodHeader
   good-facts l e =
-      let p₅ = and-true _ (all (λ (p : PageId). leb (p .0) (b .slots)) (h .pages)) e in
-      let p₄ = and-true _ (leb (h .updated) (h .expires)) (p₅ .0) in
-      let p₃ = and-true _ (leb (h .updated) (c .clock)) (p₄ .0) in
-      let p₂ = and-true _ (leb (h .created) (h .updated)) (p₃ .0) in
-      let p₁ = and-true (leb 1 (h .id .0)) (ltb (h .id .0) (c .next)) (p₂ .0) in
+      let p₅ = both _ (all (λ (p : PageId). leb (p .0) (b .slots)) (h .pages)) e in
+      let p₄ = both _ (leb (h .updated) (h .expires)) (p₅ .0) in
+      let p₃ = both _ (leb (h .updated) (c .clock)) (p₄ .0) in
+      let p₂ = both _ (leb (h .created) (h .updated)) (p₃ .0) in
+      let p₁ = both (leb 1 (h .id .0)) (ltb (h .id .0) (c .next)) (p₂ .0) in
       record {
         id-low = leb-true _ _ (p₁ .0);
         id-high = ltb-true _ _ (p₁ .1);
@@ -38,7 +39,7 @@ module _ (b : Bank) (c : Control) (h : Header) where
         past = leb-true _ _ (p₃ .1);
         ends = leb-true _ _ (p₄ .1);
         sixteen = l;
-        small = λ n. leb-true _ _ (all-at (λ (p : PageId). leb (p .0) (b .slots)) nullPageId (leb·zero (b .slots)) (h .pages) (p₅ .1) n);
+        small = λ n. leb-true _ _ (all-anywhere (λ (p : PageId). leb (p .0) (b .slots)) nullPageId (leb·zero (b .slots)) (h .pages) (p₅ .1) n);
       }
 
   facts-good : InUse b c h → goodHeader b c h ≡ true
@@ -77,7 +78,7 @@ module _ (b : Bank) (c : ℕ) (ps : PS) (h : Header) where
   unfolding held
   held-facts n e ne =
       let s = slotOf b ps (pageAt h n) in
-      let p = and-true (s .used) (leb (h .expires) (s .expires)) (rw (ne-eqb (pageAt h n) 0 ne) at e) in
+      let p = both (s .used) (leb (h .expires) (s .expires)) (rw (ne-eqb (pageAt h n) 0 ne) at e) in
       record { used = p .0; long = leb-true _ _ (p .1) }
 
   facts-held : (n : ℕ) → (pageAt h n ≢ 0 → Backs (slotOf b ps (pageAt h n)) (h .expires)) → held b ps h (getD (h .pages) n nullPageId) ≡ true
@@ -97,7 +98,7 @@ module _ (b : Bank) (c : ℕ) (ps : PS) (h : Header) where
   unfolding held
   backed-facts e l n =
       let all-held : all (held b ps h) (h .pages) ≡ true = subst (λ (u : Bool). cond u (all (held b ps h) (h .pages)) true ≡ true) (live-test c h l) e in
-      held-facts n (all-at (held b ps h) nullPageId refl (h .pages) all-held n)
+      held-facts n (all-anywhere (held b ps h) nullPageId refl (h .pages) all-held n)
 
   facts-backed : Backed b c ps h → backedTest ≡ true
   facts-backed f = go (live c h) refl
@@ -217,13 +218,13 @@ module _ (b : Bank) (t : Tables) where
   pub sound-facts : ((n : ℕ) → length (headerAt (t .hs) n .pages) ≡ 16) → length (t .ps) ≡ b .slots → sound b t ≡ true → Facts b t
   unfolding sound S1 S2 S3 S4 S5 headerSound slotSound zeroHeader
   sound-facts sixteen whole e =
-      let p₅ = and-true _ (S5 (t .hs)) e in
-      let p₄ = and-true _ (S4 b t) (p₅ .0) in
-      let p₃ = and-true _ (S3 (t .ps)) (p₄ .0) in
-      let p₂ = and-true (S1 (t .hs)) (S2 b (t .hs)) (p₃ .0) in
-      let s₁ = and-true _ (isZero (t .hs .spare)) (p₂ .0) in
-      let n₁ = and-true (leb 1 (t .hs .control .next)) (leb (t .hs .control .next) noMoreIds) (s₁ .0) in
-      let s₂ = and-true (all (headerSound b (t .hs .control)) hs) _ (p₂ .1) in
+      let p₅ = both _ (S5 (t .hs)) e in
+      let p₄ = both _ (S4 b t) (p₅ .0) in
+      let p₃ = both _ (S3 (t .ps)) (p₄ .0) in
+      let p₂ = both (S1 (t .hs)) (S2 b (t .hs)) (p₃ .0) in
+      let s₁ = both _ (isZero (t .hs .spare)) (p₂ .0) in
+      let n₁ = both (leb 1 (t .hs .control .next)) (leb (t .hs .control .next) noMoreIds) (s₁ .0) in
+      let s₂ = both (all (headerSound b (t .hs .control)) hs) _ (p₂ .1) in
       record {
         count = whole;
         next-low = leb-true _ _ (n₁ .0);

@@ -22,7 +22,7 @@ use Rattle.stores.proofs.HeaderSlots.{slots as header-slots}
 use Rattle.requests.specs.Seen.{SoundTables, Opened}
 use Rattle.rows.specs.Ends.{named}
 use Rattle.rows.specs.Rows.{clocked}
-use Rattle.rows.proofs.Tests.{left, right, all-more, all-at}
+use Rattle.paper.proofs.Tests.{left, right, all-more, all-at}
 use Rattle.requests.proofs.Conditions.{at-slot}
 
 zero-named : (n : ℕ) (p : PageId) → isZero (p .0) ≡ true → leb (p .0) n ≡ true

@@ -24,6 +24,7 @@ use Rattle.requests.proofs.set_expiry.Reads as set-expiry
 use Rattle.requests.proofs.scavenge.Reads as scavenge
 use Rattle.requests.proofs.format.format.Reads as format
 use Rattle.requests.proofs.look.look.Reads as look
+use Rattle.requests.proofs.look.named_page.Reads as named-page
 
 abbrev pub Table : ℕ → List ℕ → Type 0
 Table n xs = Bytes xs × (length xs ≡ n)
@@ -79,3 +80,6 @@ format-one κs a r r′ s s′ p q = (p .0 ∙ sym (q .0), p .1 ∙ sym (q .1))
 
 pub look-one : (κs : Lfts 2) (a r r′ s s′ : _) → look.Learnt κs a r s → look.Learnt κs a r′ s′ → now r ≡ now r′
 look-one κs a r r′ s s′ p q = p ∙ sym q
+
+pub named-page-one : (κs : Lfts 1) (a r r′ s s′ : _) → named-page.Learnt κs a r s → named-page.Learnt κs a r′ s′ → r ≡ r′
+named-page-one κs a r r′ s s′ p q = p ∙ sym q

@@ -1,4 +1,3 @@
-pub mod Tests
 pub mod Clock
 pub mod Steps
 pub mod Opening

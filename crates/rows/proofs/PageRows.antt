@@ -21,7 +21,7 @@ use Rattle.paper.specs.Tables.{HS, PS}
 use Rattle.paper.specs.Stores.{Try}
 use Rattle.paper.specs.Steps.{done, attempt, onPages, State, Run, on, end, Steps, follow, _>>=_, _>>_, give, settle, step, passOver, cleanup, eachPage}
 use Rattle.rows.specs.Ends.{standing, named}
-use Rattle.rows.proofs.Tests.{all-at}
+use Rattle.paper.proofs.Tests.{all-at}
 use Rattle.rows.proofs.Steps.{page-step, page-cleanup, leads, ends}
 
 -- a row over one page, and over one page more

@@ -17,7 +17,7 @@ use Rattle.paper.specs.Requests.{pageFits, outcomesFit, wellFormed, checked}
 use Rattle.paper.specs.Bytes.{headersLength, pagesLength, tablesFrom}
 use Rattle.paper.specs.Service.{tablesFit, refusal}
 use Rattle.stores.specs.Geometry.{bank}
-use Rattle.rows.proofs.Tests.{left, right}
+use Rattle.paper.proofs.Tests.{left, right}
 use Rattle.requests.specs.Seen.{SoundTables}
 use Rattle.service.specs.Border.{tablesRefusal, admission}
 

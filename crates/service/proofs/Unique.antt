@@ -19,6 +19,7 @@ use Rattle.service.proofs.destroy.Reads as destroy
 use Rattle.service.proofs.set_expiry.Reads as set-expiry
 use Rattle.service.proofs.scavenge.Reads as scavenge
 use Rattle.service.proofs.look.Reads as look
+use Rattle.service.proofs.look_slot.Reads as look-slot
 
 -- both tables are lent to be written
 abbrev pub OneOfBoth : (a a′ : Answer) (hx hx′ px px′ : List ℕ) → Type 0
@@ -55,3 +56,6 @@ scavenge-one κs a r r′ s s′ p q = let o = one _ r r′ _ _ _ _ _ _ p q in (
 
 pub look-one : (κs : Lfts 2) (a r r′ s s′ : _) → look.Learnt κs a r s → look.Learnt κs a r′ s′ → now r ≡ now r′
 look-one κs a r r′ s s′ p q = p ∙ sym q
+
+pub look-slot-one : (κs : Lfts 2) (a r r′ s s′ : _) → look-slot.Learnt κs a r s → look-slot.Learnt κs a r′ s′ → r ≡ r′
+look-slot-one κs a r r′ s s′ p q = p ∙ sym q

@@ -4,10 +4,11 @@ ghost use mathlib.Core.List.{[]};
 ghost use Rattle.paper.specs.Tables.{standard};
 ghost use Rattle.paper.specs.Answers.{Create, Write, Read, Info, Destroy, SetExpiry, Scavenge};
 ghost use Rattle.paper.specs.Requests.{outcomesFit, pageFits};
-ghost use Rattle.paper.specs.Service.{serveBytes, format, look};
+ghost use Rattle.paper.specs.Service.{serveBytes, format, look, lookSlot};
 ghost use Rattle.service.specs.Border.{left, tablesRefusal, admission};
 use paper::Answer;
 use paper::FileId;
+use paper::PageId;
 use paper::PageNum;
 
 const SLOTS: usize = 256;
@@ -257,4 +258,18 @@ pub fn look<'a>(
         return blank;
     }
     requests::look::look(headers, pages, SLOTS, SIZE, time, id, number, blank)
+}
+
+// Where the page lies that Look answers: its slot, NullPageId for the blank.
+pub fn look_slot(headers: &[u8], pages: &[u8], time: u32, id: FileId, number: PageNum) -> PageId
+    ensures { λ r. ⌜ r ≡ lookSlot standard time id number (now (headers .entry)) (now (pages .entry)) ⌝ }
+{
+    if number.0 > 15 {
+        return PageId(0);
+    }
+    let refused = tables_refusal(headers, pages, time);
+    if refused != 0 {
+        return PageId(0);
+    }
+    requests::look::named_page(headers, time, id, number)
 }

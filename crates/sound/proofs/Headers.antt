@@ -24,13 +24,14 @@ use Rattle.records.proofs.Zeros.{zero-header}
 use Rattle.sound.specs.declared.Checked.{Checked}
 use Rattle.sound.specs.declared.Checked.the-variants.{Broken, Empty, Named}
 use Rattle.sound.specs.Seen.{idWithin, idsInUse, marked, heldTo, once, passes, seenAfter, allPass, told}
-use Rattle.sound.proofs.Walks.{and-both, from-number, past-all}
+use Rattle.paper.proofs.Tests.{both}
+use Rattle.sound.proofs.Walks.{from-number, past-all}
 use Rattle.sound.proofs.Records.{part, part-is, part-bytes, part-length}
 
 pub good-within : (b : Bank) (c : Control) (h : Header) → goodHeader b c h ≡ true → all (idWithin (b .slots)) (h .pages) ≡ true
 unfolding goodHeader
 good-within b c h e =
-    and-both
+    both
     (leb 1 (h .id .0) && ltb (h .id .0) (c .next) && leb (h .created) (h .updated) && leb (h .updated) (c .clock) && leb (h .updated) (h .expires))
     (all (idWithin (b .slots)) (h .pages)) e .1
 

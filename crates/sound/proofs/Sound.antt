@@ -14,7 +14,7 @@ use Rattle.paper.specs.Bytes.{idsOf}
 use Rattle.paper.specs.Sound.{S1, S2, S3, S4, S5, goodHeader, zeroHeader, headerSound, held, pageIds, sound}
 use Rattle.records.proofs.Zeros.{all-append}
 use Rattle.sound.specs.Seen.{Unmarked, idsInUse, marked, heldTo, once, passes, seenAfter, allPass}
-use Rattle.sound.proofs.Walks.{and-both}
+use Rattle.paper.proofs.Tests.{both}
 use Rattle.sound.proofs.Headers.{good-within}
 use Rattle.sound.proofs.Unseen.{unseen, nonzero, unseen-append, unseen-nonzero, marked-nonzero, once-apart, inMap, unseen-distinct, ids-in-map}
 
@@ -85,7 +85,7 @@ module _ (b : Bank) (c : Control) (n : ℕ) (wide : b .slots ≤ n) where
   pages-in-map : (hs : List Header) → all (headerSound b c) hs ≡ true → all (inMap n) (pageIds (those (live (c .clock)) hs)) ≡ true
   unfolding headerSound pageIds
   pages-in-map [] e = refl
-  pages-in-map (h ∷ hs) e = let w = and-both (headerSound b c h) (all (headerSound b c) hs) e in go (h .used) (ltb (c .clock) (h .expires)) (w .0) (pages-in-map hs (w .1))
+  pages-in-map (h ∷ hs) e = let w = both (headerSound b c h) (all (headerSound b c) hs) e in go (h .used) (ltb (c .clock) (h .expires)) (w .0) (pages-in-map hs (w .1))
     where
       go : (u l : Bool) → cond u (goodHeader b c h) (zeroHeader h) ≡ true → all (inMap n) (pageIds (those (live (c .clock)) hs)) ≡ true
           → all (inMap n) (pageIds (cond (u && l) (h ∷ those (live (c .clock)) hs) (those (live (c .clock)) hs))) ≡ true

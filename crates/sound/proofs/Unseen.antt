@@ -13,7 +13,7 @@ use Rattle.paper.specs.declared.PageId.{PageId}
 use Rattle.paper.specs.Lists.{all, those, absent, distinct, isZero}
 use Rattle.paper.specs.Bytes.{idsOf}
 use Rattle.sound.specs.Seen.{Unmarked, idWithin, isMarked, mark, marked, once}
-use Rattle.sound.proofs.Walks.{and-both}
+use Rattle.paper.proofs.Tests.{both}
 
 -- ids that are not marked, each marked when it is passed
 unfoldable pub unseen : List Bool → List ℕ → Bool
@@ -94,7 +94,7 @@ unfolding unseen unmarked isMarked mark inMap
 unseen-apart n [] seen l e = refl
 unseen-apart n (zero ∷ xs) seen l e = absurd (let z : _≡_ {A = ℕ} 0 1 = cc in omega arith)
 unseen-apart n (suc k ∷ xs) seen l e =
-    let in-range = and-both (ltb k n) (all (inMap n) xs) e in
+    let in-range = both (ltb k n) (all (inMap n) xs) e in
     let h : k < length seen = omega (arith, ltb-true k n (in-range .0)) in
     ap (λ (t : Bool). not (getD seen k false) && t)
     (unseen-apart n xs (set seen k true) (length-set seen k true ∙ l) (in-range .1) ∙ ap (λ (t : Bool). t && distinct xs) (mark-others seen k h xs))
@@ -121,7 +121,7 @@ module _ (slots n : ℕ) (wide : slots ≤ n) where
   pub ids-in-map : (ps : List PageId) → all (idWithin slots) ps ≡ true → all (inMap n) (those nonzero (idsOf ps)) ≡ true
   unfolding inMap
   ids-in-map [] e = refl
-  ids-in-map (p ∷ ps) e = let w = and-both (idWithin slots p) (all (idWithin slots) ps) e in go (p .0) (w .0) (ids-in-map ps (w .1))
+  ids-in-map (p ∷ ps) e = let w = both (idWithin slots p) (all (idWithin slots) ps) e in go (p .0) (w .0) (ids-in-map ps (w .1))
     where
       go : (i : ℕ) → leb i slots ≡ true → all (inMap n) (those nonzero (idsOf ps)) ≡ true → all (inMap n) (those nonzero (i ∷ idsOf ps)) ≡ true
       go zero h r = r

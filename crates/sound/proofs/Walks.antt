@@ -4,7 +4,6 @@ use Prim.Native.Nat.{ℕ, zero, suc, _+_, _-_, _<_, _≤_}
 use mathlib.Core.Path.{_≡_, refl, ap, _∙_}
 use mathlib.Core.Bool.{Bool, true, false, not, _&&_, _||_, and-assoc, and-true}
 use mathlib.Core.List.{List, [], _∷_}
-use native.Mathlib.Nat.{not-suc-le-zero, le-of-suc-le-suc}
 use native.Mathlib.Numerals.{add-one}
 use native.Mathlib.Omega.{arith}
 use borrow.Author.Tests.{ne-eqb, eqb-true, eqb-false}
@@ -32,16 +31,6 @@ module _ {A : Type 0} (f : A → Bool) (d : A) (xs : List A) (gathered : Bool) (
 
   pub all-end : length xs ≤ i → gathered && all f (drop i xs) ≡ gathered
   all-end h = rw (drop-of-length-le xs h) (and-true gathered)
-
-pub and-both : (a b : Bool) → a && b ≡ true → (a ≡ true) × (b ≡ true)
-and-both true b e = (refl, e)
-and-both false b e = absurd (let z : _≡_ {A = ℕ} 0 1 = cc in omega arith)
-
--- a test that all pass, each passes
-pub all-at : {A : Type 0} (f : A → Bool) (d : A) (xs : List A) → all f xs ≡ true → (i : ℕ) → i < length xs → f (getD xs i d) ≡ true
-all-at f d [] e i h = absurd (not-suc-le-zero h)
-all-at f d (x ∷ xs) e zero h = and-both (f x) (all f xs) e .0
-all-at f d (x ∷ xs) e (suc i) h = all-at f d xs (and-both (f x) (all f xs) e .1) i (le-of-suc-le-suc h)
 
 abbrev pub other : ℕ → ℕ → Bool
 other x y = not (eqb x y)

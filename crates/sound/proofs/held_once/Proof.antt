@@ -9,7 +9,7 @@ use Rattle.paper.specs.Ids.{pageId}
 use Rattle.paper.specs.Bytes.{psFrom}
 use Rattle.stores.specs.Geometry.{bank}
 use Rattle.sound.specs.Seen.{idWithin, heldTo}
-use Rattle.sound.proofs.Walks.{all-at}
+use Rattle.paper.proofs.Tests.{all-at}
 use Rattle.sound.proofs.Records.{held-null}
 use Rattle.sound.proofs.Seen.{Walked, walk-starts, walk-null, walk-id, walk-ends}
 use borrow.Author.Needs.{needs}
@@ -35,7 +35,7 @@ index t = omega (arith, sixteen (start t))
 in-slots : (t : tie.In-loop Inv-loop μ-loop) → getD (start t .args .t4) (t .before .loop .k) (pageId 0) .0 ≤ start t .args .slots
 in-slots t =
     let a = start t .args in
-    leb-true _ _ (all-at (idWithin (a .slots)) (pageId 0) (a .t4) (start t .pre .1 .1) (t .before .loop .k) (index t))
+    leb-true _ _ (all-at (idWithin (a .slots)) (pageId 0) (t .before .loop .k) (a .t4) (start t .pre .1 .1) (index t))
 
 loop-holds : tie.Need-loop-holds Inv-loop μ-loop
 loop-holds c = (omega arith, refl, walk-starts _ _ _)

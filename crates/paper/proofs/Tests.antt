@@ -15,6 +15,9 @@ left false b e = e
 pub right : (a b : Bool) → a && b ≡ true → b ≡ true
 right true b e = e
 right false b e = let z : _≡_ {A = ℕ} 0 1 = cc in absurd (omega arith)
+
+pub both : (a b : Bool) → a && b ≡ true → (a ≡ true) × (b ≡ true)
+both a b e = (left a b e, right a b e)
 
 module _ {A : Type 0} where
   pub all-more : (f g : A → Bool) → ((x : A) → f x ≡ true → g x ≡ true) → (xs : List A) → all f xs ≡ true → all g xs ≡ true

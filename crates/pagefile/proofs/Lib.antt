@@ -1,0 +1,2 @@
+mod Sees
+pub mod Unique
