@@ -5,7 +5,7 @@ use mathlib.Core.Bool.{Bool, true, false, _&&_}
 use mathlib.Core.List.{List, [], _∷_, _++_}
 use Prim.Native.Nat.{ℕ, suc, _^_, _<_}
 use lib.Dec.{ltb, ltb→lt, T}
-use lib.ListN.{length}
+use lib.ListN.{length, take, drop}
 use Rattle.bits.specs.Field.{Within}
 use Rattle.bits.specs.Field.Within.{none, one}
 
@@ -22,6 +22,14 @@ within-length (one h r) = ap suc (within-length r)
 pub within-append : {ws vs ws' vs' : List ℕ} → Within ws vs → Within ws' vs' → Within (ws ++ ws') (vs ++ vs')
 within-append none s = s
 within-append (one h r) s = one h (within-append r s)
+
+pub within-take : (ws ws' : List ℕ) {vs : List ℕ} → Within (ws ++ ws') vs → Within ws (take (length ws) vs)
+within-take [] ws' r = none
+within-take (w ∷ ws) ws' (one h r) = one h (within-take ws ws' r)
+
+pub within-drop : (ws ws' : List ℕ) {vs : List ℕ} → Within (ws ++ ws') vs → Within ws' (drop (length ws) vs)
+within-drop [] ws' r = r
+within-drop (w ∷ ws) ws' (one h r) = within-drop ws ws' r
 
 abbrev pub withinb : List ℕ → List ℕ → Bool
 withinb [] [] = true

@@ -63,3 +63,7 @@ splice at ys xs = take at xs ++ (ys ++ drop (at + length ys) xs)
 -- sixteen numbers of nine bits
 abbrev pub nines : List ℕ
 nines = replicate 16 9
+
+-- eight of them, which end at a whole byte
+abbrev pub halfNines : List ℕ
+halfNines = replicate 8 9

@@ -2,7 +2,7 @@
 ghost use mathlib.Core.Path.{_≡_};
 ghost use Prim.Native.Nat.{_+_, _*_, _-_, _%_, _<_, _≤_};
 ghost use lib.ListN.{length, getD};
-ghost use Rattle.bits.specs.Field.{field, pack, splice, be, nines, Within};
+ghost use Rattle.bits.specs.Field.{field, pack, splice, be, nines, halfNines, Within};
 
 // A call asks only for the index, where a cast asks too that the byte fits.
 fn wide32(b: u8) -> u32
@@ -62,45 +62,50 @@ pub fn put32(s: &mut [u8], at: usize, v: u32)
     s[at + 3] = (v % 256) as u8;
 }
 
-// Byte j of sixteen nine-bit numbers holds the last bits of a number that began before it ..
+// Byte j of eight nine-bit numbers, in nine bytes, holds the last j bits of the number before it ..
 fn ends(ids: &[u16], j: usize) -> u16
-    requires { ⌜ (j < 18) × Within nines (now ids) ⌝ }
-    ensures { λ r. ⌜ r ≡ field (8 * j) (j % 9) (pack nines (now (ids .entry))) ⌝ }
+    requires { ⌜ (j < 9) × Within halfNines (now ids) ⌝ }
+    ensures { λ r. ⌜ r ≡ field (8 * j) j (pack halfNines (now (ids .entry))) ⌝ }
 {
-    let r = j % 9;
-    if r == 0 {
+    if j == 0 {
         return 0;
     }
-    let i = j - j / 9 - 1;
-    ids[i] % (1u16 << r)
+    ids[j - 1] % (1u16 << j)
 }
 
-// .. and the first bits of the next.
+// .. and the first 8 - j bits of number j.
 fn begins(ids: &[u16], j: usize) -> u16
-    requires { ⌜ (j < 18) × Within nines (now ids) ⌝ }
-    ensures { λ r. ⌜ r ≡ field (8 * j + j % 9) (8 - j % 9) (pack nines (now (ids .entry))) ⌝ }
+    requires { ⌜ (j < 9) × Within halfNines (now ids) ⌝ }
+    ensures { λ r. ⌜ r ≡ field (9 * j) (8 - j) (pack halfNines (now (ids .entry))) ⌝ }
 {
-    let r = j % 9;
-    if r == 8 {
+    if j == 8 {
         return 0;
     }
-    let i = j - j / 9;
-    ids[i] >> (r + 1)
+    ids[j] >> (j + 1)
 }
 
 fn nines_byte(ids: &[u16], j: usize) -> u8
-    requires { ⌜ (j < 18) × Within nines (now ids) ⌝ }
-    ensures { λ r. ⌜ r ≡ getD (pack nines (now (ids .entry))) j 0 ⌝ }
+    requires { ⌜ (j < 9) × Within halfNines (now ids) ⌝ }
+    ensures { λ r. ⌜ r ≡ getD (pack halfNines (now (ids .entry))) j 0 ⌝ }
 {
-    ((ends(ids, j) << (8 - j % 9)) + begins(ids, j)) as u8
+    ((ends(ids, j) << (8 - j)) + begins(ids, j)) as u8
 }
 
-// Each of the 18 bytes is written once; none is read back.
+// Each of the nine bytes is written once; none is read back. Nine turns are few enough for the compiler to unroll; eighteen are not.
+fn put_half(s: &mut [u8], at: usize, ids: &[u16])
+    requires { ⌜ (at + 9 ≤ length (now s)) × Within halfNines (now ids) ⌝ }
+    ensures { λ _. ⌜ now (s .exit) ≡ splice at (pack halfNines (now (ids .entry))) (now (s .entry)) ⌝ }
+{
+    for j in 0..9 {
+        s[at + j] = nines_byte(ids, j);
+    }
+}
+
+// In halves, as eight numbers end at a whole byte.
 pub fn put_nines(s: &mut [u8], at: usize, ids: &[u16])
     requires { ⌜ (at + 18 ≤ length (now s)) × Within nines (now ids) ⌝ }
     ensures { λ _. ⌜ now (s .exit) ≡ splice at (pack nines (now (ids .entry))) (now (s .entry)) ⌝ }
 {
-    for j in 0..18 {
-        s[at + j] = nines_byte(ids, j);
-    }
+    put_half(s, at, &ids[0..8]);
+    put_half(s, at + 9, &ids[8..16]);
 }

@@ -1,10 +1,13 @@
 -- When records and tables are within their ranges, and a slot as its head beside its contents.
 use Prim.Native.Nat.{ℕ}
 use mathlib.Core.Path.{_≡_}
+use mathlib.Core.Bool.{Bool, _&&_}
 use mathlib.Core.List.{List, [], _∷_}
 use lib.ListN.{length}
+use lib.Dec.{eqb}
 use Rattle.bits.specs.Field.{Within, Bytes}
 use Rattle.paper.specs.declared.Control.{Control}
+use Rattle.paper.specs.declared.FileId.{FileId}
 use Rattle.paper.specs.declared.Header.{Header}
 use Rattle.paper.specs.Tables.{Bank, Slot, HS, PS, headerSlots}
 use Rattle.paper.specs.Bytes.{controlLayout, controlValues, headerLayout, headerValues, slotLayout, slotValues}
@@ -44,3 +47,7 @@ slotWith h page = record { used = h .used; spare = h .spare; expires = h .expire
 
 abbrev pub keyOf : Header → HeaderKey
 keyOf h = record { used = h .used; id = h .id; expires = h .expires }
+
+-- in use under this id
+abbrev pub inUseAs : FileId → Header → Bool
+inUseAs id h = h .used && eqb (h .id .0) (id .0)

@@ -6,7 +6,7 @@ ghost use Rattle.paper.specs.Stores.{expiring};
 ghost use mathlib.Core.List.{_++_};
 ghost use Rattle.bits.specs.Field.{be, pack, splice, nines, Within};
 ghost use Rattle.paper.specs.Bytes.{controlFrom, spareFrom, controlBytes, headerFrom, headerBytes, slotFrom, slotBytes, idsOf, bit};
-ghost use Rattle.records.specs.Fits.{HeaderFits, headOf, keyOf, slotWith};
+ghost use Rattle.records.specs.Fits.{HeaderFits, headOf, keyOf, slotWith, inUseAs};
 use paper::Control;
 use paper::FileId;
 use paper::Header;
@@ -238,6 +238,16 @@ pub fn zero_slot(pages: &mut [u8], size: usize, n: usize)
     zero(&mut pages[a..e]);
 }
 
+// Zeros over header slot n.
+pub fn zero_header(headers: &mut [u8], n: usize)
+    requires { ⌜ n * 36 + 36 ≤ length (now headers) ⌝ }
+    ensures { λ _. ⌜ now (headers .exit) ≡ splice (n * 36) (replicate 36 0) (now (headers .entry)) ⌝ }
+{
+    let a = n * 36;
+    let e = a + 36;
+    zero(&mut headers[a..e]);
+}
+
 // What a search looks at, without unpacking the page ids.
 pub struct HeaderKey {
     pub used: bool,
@@ -264,4 +274,25 @@ pub fn header_key(headers: &[u8], n: usize) -> HeaderKey
     let a = n * 36;
     let e = a + 36;
     unpack_key(&headers[a..e])
+}
+
+// By the first word as a whole: taken apart, or its first bit tested alone, it would be loaded byte by byte.
+fn word_is(r: &[u8], id: FileId) -> bool
+    requires { ⌜ length (now r) ≡ 36 ⌝ }
+    ensures { λ b. ⌜ b ≡ inUseAs id (headerFrom (now (r .entry))) ⌝ }
+{
+    if id.0 > 2147483647 {
+        return false;
+    }
+    bits::be32(r, 0) == 2147483648 + id.0
+}
+
+// Whether header slot n is in use under this id, all that a search by id asks of most slots.
+pub fn in_use_as(headers: &[u8], n: usize, id: FileId) -> bool
+    requires { ⌜ n * 36 + 36 ≤ length (now headers) ⌝ }
+    ensures { λ r. ⌜ r ≡ inUseAs id (headerFrom (take 36 (drop (n * 36) (now (headers .entry))))) ⌝ }
+{
+    let a = n * 36;
+    let e = a + 36;
+    word_is(&headers[a..e], id)
 }

@@ -6,11 +6,12 @@ use mathlib.Core.List.{List, _++_, map}
 use native.Mathlib.Nat.{zero-add, zero-mul, suc-mul}
 use native.Mathlib.Omega.{arith}
 use lib.ListN.{length, take, drop, replicate, replicate-append-replicate}
-use Rattle.bits.specs.Field.{value, pack, unpack, splice}
+use Rattle.bits.specs.Field.{value, unpack, splice}
 use Rattle.paper.specs.Tables.{Bank, noHeader, noSlot, headerSlots, fresh}
 use Rattle.paper.specs.Bytes.{recordSize, headersLength, pagesLength, slotSize, controlBytes, spareFrom, headerBytes, slotBytes, joined, headerTable, pageTable}
 use Rattle.records.proofs.Records.{control-length}
 use Rattle.stores.proofs.Slots.{no-slot-bytes}
+use Rattle.stores.proofs.HeaderSlots.{no-header-bytes}
 
 -- records that are written as zeros
 joined-zeros : {A : Type 0} (of : A → List ℕ) (x : A) (k n : ℕ) → of x ≡ replicate k 0 → joined (map of (replicate n x)) ≡ replicate (n * k) 0
@@ -23,10 +24,6 @@ joined-zeros of x k (suc n) e =
 pub fresh-pages : (b : Bank) → pageTable (fresh b .ps) ≡ replicate (pagesLength b) 0
 unfolding pageTable
 fresh-pages b = joined-zeros slotBytes (noSlot b) (slotSize b) (b .slots) (no-slot-bytes b)
-
-no-header-bytes : headerBytes noHeader ≡ replicate recordSize 0
-unfolding headerBytes pack
-no-header-bytes = refl
 
 no-spare : spareFrom (take 36 (replicate headersLength 0)) ≡ 0
 unfolding spareFrom unpack value

@@ -3,11 +3,11 @@
 use Prim.Native.Nat.{ℕ, zero, suc, _+_, _-_, _≤_, _<_}
 use mathlib.Core.Path.{_≡_, refl, sym, ap, ap₂, _∙_}
 use mathlib.Core.Bool.{Bool, true, false, not, _&&_, and-assoc, and-true}
-use mathlib.Core.List.{List, [], _∷_}
+use mathlib.Core.List.{List, [], _∷_, _++_}
 use native.Mathlib.Numerals.{add-one}
 use native.Mathlib.Omega.{arith}
-use lib.ListN.{length, drop, getD, set, drop-of-length-le}
-use lib.Seq.{drop-cons}
+use lib.ListN.{length, take, drop, getD, set, drop-of-length-le}
+use lib.Seq.{take-all, drop-cons, take-add}
 use Rattle.paper.specs.declared.PageId.{PageId}
 use Rattle.paper.specs.Ids.{pageId}
 use Rattle.paper.specs.Bytes.{idsOf}
@@ -22,6 +22,31 @@ mark-at : (seen : List Bool) (n : ℕ) → 1 ≤ n → set seen (n - 1) true ≡
 unfolding mark
 mark-at seen zero lo = absurd (omega arith)
 mark-at seen (suc k) lo = let e : suc k - 1 ≡ k = omega arith in rw e
+
+-- the ids behind others are walked over the map that those leave
+marked-append : (seen : List Bool) (ps qs : List PageId) → marked seen (idsOf (ps ++ qs)) ≡ marked (marked seen (idsOf ps)) (idsOf qs)
+unfolding marked
+marked-append seen [] qs = refl
+marked-append seen (p ∷ ps) qs = marked-append (mark seen (p .0)) ps qs
+
+once-append : (f : PageId → Bool) (seen : List Bool) (ps qs : List PageId) → once f seen (ps ++ qs) ≡ once f seen ps && once f (marked seen (idsOf ps)) qs
+unfolding once marked
+once-append f seen [] qs = refl
+once-append f seen (p ∷ ps) qs =
+    let here = f p && not (isMarked seen (p .0)) in
+    let next = mark seen (p .0) in
+    ap (λ (b : Bool). here && b) (once-append f next ps qs) ∙ sym (and-assoc here (once f next ps) (once f (marked next (idsOf ps)) qs))
+
+-- a half is walked, then the other
+module _ (seen : List Bool) (ids : List PageId) (few : length ids ≤ 16) where
+  halves : take 8 ids ++ take 8 (drop 8 ids) ≡ ids
+  halves = sym (take-add 8 8 ids) ∙ take-all 16 ids few
+
+  pub marked-halves : marked (marked seen (idsOf (take 8 ids))) (idsOf (take 8 (drop 8 ids))) ≡ marked seen (idsOf ids)
+  marked-halves = sym (marked-append seen (take 8 ids) (take 8 (drop 8 ids))) ∙ ap (λ (l : List PageId). marked seen (idsOf l)) halves
+
+  pub once-halves : (f : PageId → Bool) → once f seen (take 8 ids) && once f (marked seen (idsOf (take 8 ids))) (take 8 (drop 8 ids)) ≡ once f seen ids
+  once-halves f = sym (once-append f seen (take 8 ids) (take 8 (drop 8 ids))) ∙ ap (once f seen) halves
 
 -- ids have been walked up to index k: the map is seen, and good says what was found of them
 pub record Walked (f : PageId → Bool) (ids : List PageId) (seen₀ : List Bool) (k : ℕ) (seen : List Bool) (good : Bool) : Type 0 where
@@ -38,15 +63,12 @@ module _ {f : PageId → Bool} {ids : List PageId} {seen₀ : List Bool} {k : �
       let none : drop k ids ≡ [] = drop-of-length-le ids h in
       (sym (and-true good) ∙ ap (λ (l : List PageId). good && once f seen l) (sym none) ∙ w .found, ap (λ (l : List PageId). marked seen (idsOf l)) (sym none) ∙ w .map)
 
-  module _ (h : k < length ids) where
-    abbrev here : PageId
-    here = getD ids k (pageId 0)
-
+  module _ (h : k < length ids) (here : PageId) (at : here ≡ getD ids k (pageId 0)) where
     abbrev n : ℕ
     n = here .0
 
     rest : drop k ids ≡ here ∷ drop (k + 1) ids
-    rest = rw (add-one, drop-cons ids k (pageId 0))
+    rest = rw (at, add-one, drop-cons ids k (pageId 0))
 
     turn : (seen′ : List Bool) (good′ : Bool) → good′ ≡ good && (f here && not (isMarked seen n)) → seen′ ≡ mark seen n → Walked f ids seen₀ (k + 1) seen′ good′
     unfolding once marked
@@ -59,7 +81,7 @@ module _ {f : PageId → Bool} {ids : List PageId} {seen₀ : List Bool} {k : �
     -- page id 0 is passed over
     pub walk-null : n ≡ 0 → f here ≡ true → Walked f ids seen₀ (k + 1) seen good
     unfolding isMarked mark
-    walk-null z e = turn seen good (rw (z, e) (sym (and-true good))) (rw z)
+    walk-null z e = turn seen good (rw (e, z) (sym (and-true good))) (rw z)
 
     -- any other is tested and marked
     pub walk-id : 1 ≤ n → (passed again : Bool) → passed ≡ f here → again ≡ getD seen (n - 1) false → Walked f ids seen₀ (k + 1) (set seen (n - 1) true) ((good && passed) && not again)

@@ -1,8 +1,8 @@
 // S1 to S5 over both tables. Slot count, contents length and the map of slots seen come in at run time; a bank is a thin layer over them.
 ghost use mathlib.Core.Path.{_≡_};
 ghost use mathlib.Core.Bool.{true, _&&_};
-ghost use Prim.Native.Nat.{ℕ, _≤_};
-ghost use lib.ListN.{length, drop};
+ghost use Prim.Native.Nat.{ℕ, _+_, _≤_};
+ghost use lib.ListN.{length, take, drop};
 ghost use Rattle.paper.specs.Ids.{pageId};
 ghost use Rattle.paper.specs.Lists.{all, absent, distinct, isZero};
 ghost use Rattle.paper.specs.Tables.{headerSlots, headerAt, slotAt, standard};
@@ -142,7 +142,37 @@ fn page_held(pages: &[u8], slots: usize, size: usize, n: usize, expires: u32) ->
     s.used & (expires <= s.expires)
 }
 
-// S4 and S5 for a live header: each page id but 0 is held and not seen before, and is marked; no exit per id.
+// S4 and S5 for eight of a live header's page ids, from the one with index `from` on; no exit per id.
+fn held_half(
+    pages: &[u8],
+    slots: usize,
+    size: usize,
+    ids: [PageId; 16],
+    from: usize,
+    expires: u32,
+    seen: &mut [bool],
+) -> bool
+    requires { ⌜ Geometry slots size (now pages) ⌝ }
+    requires { ⌜ (slots ≤ length (now seen)) × (all (idWithin slots) ids ≡ true) ⌝ }
+    requires { ⌜ from + 8 ≤ 16 ⌝ }
+    ensures { λ r. ⌜ r ≡ once (heldTo (bank slots size) (psFrom (bank slots size) (now (pages .entry))) expires) (now (seen .entry)) (take 8 (drop from ids)) ⌝ }
+    ensures { λ r. ⌜ now (seen .exit) ≡ marked (now (seen .entry)) (idsOf (take 8 (drop from ids))) ⌝ }
+{
+    let mut good = true;
+    for k in 0..8 {
+        let p = ids[from + k];
+        let n = p.0 as usize;
+        if n != 0 {
+            let held = page_held(pages, slots, size, n, expires);
+            let again = seen[n - 1];
+            good = good & held & !again;
+            seen[n - 1] = true;
+        }
+    }
+    good
+}
+
+// S4 and S5 for a live header: each page id but 0 is held and not seen before, and is marked; in halves, as eight turns compile to no loop.
 fn held_once(
     pages: &[u8],
     slots: usize,
@@ -156,18 +186,9 @@ fn held_once(
     ensures { λ r. ⌜ r ≡ once (heldTo (bank slots size) (psFrom (bank slots size) (now (pages .entry))) expires) (now (seen .entry)) ids ⌝ }
     ensures { λ r. ⌜ now (seen .exit) ≡ marked (now (seen .entry)) (idsOf ids) ⌝ }
 {
-    let mut good = true;
-    for k in 0..16 {
-        let p = ids[k];
-        let n = p.0 as usize;
-        if n != 0 {
-            let held = page_held(pages, slots, size, n, expires);
-            let again = seen[n - 1];
-            good = good & held & !again;
-            seen[n - 1] = true;
-        }
-    }
-    good
+    let first = held_half(pages, slots, size, ids, 0, expires, seen);
+    let second = held_half(pages, slots, size, ids, 8, expires, seen);
+    first & second
 }
 
 // A header in use.

@@ -2,12 +2,12 @@
 -- Assumes nothing.
 use Prim.Native.Nat.{ℕ, _+_, _-_, _*_, _^_, _≤_, _<_}
 use mathlib.Core.Path.{_≡_, refl, sym, ap, ap₂, _∙_}
-use mathlib.Core.Bool.{Bool, true, false, not, _&&_, _||_}
+use mathlib.Core.Bool.{Bool, true, false, not, _&&_, _||_, and-true}
 use mathlib.Core.List.{List}
 use native.Mathlib.Omega.{arith}
 use borrow.Author.Tests.{lt-ltb, le-ltb}
 use lib.Dec.{leb, ltb, eqb}
-use lib.ListN.{length, take, drop, length-map}
+use lib.ListN.{length, take, drop, replicate, length-map}
 use Rattle.paper.specs.declared.FileId.{FileId}
 use Rattle.paper.specs.declared.Header.{Header}
 use Rattle.paper.specs.declared.Control.{Control}
@@ -19,11 +19,12 @@ use Rattle.paper.specs.Lists.{lowest}
 use Rattle.paper.specs.Tables.{headerSlots, headerAt, headerFree, headerExpired, noHeader, putHeader, withControl, withHeaders}
 use Rattle.paper.specs.Stores.{gone, no, issued, named, hasId, replaceHeader, destroyHeader, scavengeHeaders}
 use Rattle.paper.specs.Bytes.{recordSize, headersLength, headerLayout, headerValues, controlBytes, controlFrom, spareFrom, headerBytes, headerFrom, parts, hsFrom}
-use Rattle.bits.specs.Field.{splice}
+use Rattle.paper.proofs.Tests.{left, right}
+use Rattle.bits.specs.Field.{pack, splice}
 use Rattle.bits.specs.Field.Within.{one}
 use Rattle.bits.proofs.Within.{within-test}
 use Rattle.records.specs.declared.HeaderKey.{HeaderKey}
-use Rattle.records.specs.Fits.{ControlFits, HeaderFits, keyOf}
+use Rattle.records.specs.Fits.{ControlFits, HeaderFits, keyOf, inUseAs}
 use Rattle.records.proofs.Records.{control-fits}
 use Rattle.records.proofs.Parts.{length-parts}
 use Rattle.records.proofs.Places.{control-place, control-put, header-place, header-put}
@@ -60,18 +61,28 @@ module _ (xs : List ℕ) (n : ℕ) (k : HeaderKey) (t : ℕ) (lo : 1 ≤ n) (hi 
   pub unused-expired : k .used ≡ false → false ≡ headerExpired t (headerAt (hsFrom xs) n)
   unused-expired u = ap (λ (b : Bool). b && leb (k .expires) t) (sym u) ∙ key-expired
 
-  module _ (id : FileId) where
-    key-has : (k .used && ltb t (k .expires)) && eqb (k .id .0) (id .0) ≡ hasId t id (headerAt (hsFrom xs) n)
-    key-has = ap (λ (q : HeaderKey). (q .used && ltb t (q .expires)) && eqb (q .id .0) (id .0)) key-at
+-- a slot that is in use under the id has it where it is live, and another has not
+module _ (t : ℕ) (id : FileId) (xs : List ℕ) (n : ℕ) (lo : 1 ≤ n) (hi : n ≤ headerSlots) where
+  abbrev record-at : Header
+  record-at = headerFrom (take 36 (drop (n * 36) xs))
 
-    pub live-has : k .used ≡ true → t < k .expires → eqb (k .id .0) (id .0) ≡ hasId t id (headerAt (hsFrom xs) n)
-    live-has u l = ap₂ (λ (a b : Bool). (a && b) && eqb (k .id .0) (id .0)) (sym u) (sym (lt-ltb t (k .expires) l)) ∙ key-has
+  not-both : (u l i : Bool) → u && i ≡ false → (u && l) && i ≡ false
+  not-both false l i e = refl
+  not-both true true i e = e
+  not-both true false i e = refl
 
-    pub expired-has-not : k .used ≡ true → k .expires ≤ t → false ≡ hasId t id (headerAt (hsFrom xs) n)
-    expired-has-not u l = ap₂ (λ (a b : Bool). (a && b) && eqb (k .id .0) (id .0)) (sym u) (sym (le-ltb t (k .expires) l)) ∙ key-has
+  pub named-has : (k : HeaderKey) → inUseAs id record-at ≡ true → k ≡ keyOf record-at → ltb t (k .expires) ≡ hasId t id (headerAt (hsFrom xs) n)
+  named-has k e q =
+      let in-use = left (record-at .used) (eqb (record-at .id .0) (id .0)) e in
+      let its-id = right (record-at .used) (eqb (record-at .id .0) (id .0)) e in
+      ap (λ (h : HeaderKey). ltb t (h .expires)) q
+      ∙ sym (and-true (ltb t (record-at .expires)))
+      ∙ ap₂ (λ (u i : Bool). (u && ltb t (record-at .expires)) && i) (sym in-use) (sym its-id)
+      ∙ ap (hasId t id) (sym (header-place xs n lo hi))
 
-    pub unused-has-not : k .used ≡ false → false ≡ hasId t id (headerAt (hsFrom xs) n)
-    unused-has-not u = ap (λ (b : Bool). (b && ltb t (k .expires)) && eqb (k .id .0) (id .0)) (sym u) ∙ key-has
+  pub other-has-not : inUseAs id record-at ≡ false → false ≡ hasId t id (headerAt (hsFrom xs) n)
+  other-has-not e =
+      sym (not-both (record-at .used) (ltb t (record-at .expires)) (eqb (record-at .id .0) (id .0)) e) ∙ ap (hasId t id) (sym (header-place xs n lo hi))
 
 -- a search of the slots as it stands at number n, its turns, its end, and that what it finds is a slot
 module _ (f : Header → Bool) (xs : List ℕ) where
@@ -93,15 +104,19 @@ module _ (f : Header → Bool) (xs : List ℕ) where
 pub zeros-fit : HeaderFits noHeader
 zeros-fit = within-test headerLayout (headerValues noHeader) tt
 
--- zeros put over slot n
-pub zeros-put : (xs ys : List ℕ) (n : ℕ) (h : Header) → length xs ≡ headersLength → 1 ≤ n → n ≤ headerSlots → h ≡ noHeader → ys ≡ splice (n * 36) (headerBytes h) xs
-    → hsFrom ys ≡ putHeader n noHeader (hsFrom xs)
-zeros-put xs ys n h l lo hi eh ey = ap hsFrom (ey ∙ ap (λ (g : Header). splice (n * 36) (headerBytes g) xs) eh) ∙ header-put xs l n lo hi noHeader zeros-fit
+pub no-header-bytes : headerBytes noHeader ≡ replicate recordSize 0
+unfolding headerBytes pack
+no-header-bytes = refl
 
-pub destroyed : (xs ys : List ℕ) (n : ℕ) (h : Header) → length xs ≡ headersLength → 1 ≤ n → n ≤ headerSlots → h ≡ noHeader → ys ≡ splice (n * 36) (headerBytes h) xs
+-- zeros put over slot n
+zeros-put : (xs ys : List ℕ) (n : ℕ) → length xs ≡ headersLength → 1 ≤ n → n ≤ headerSlots → ys ≡ splice (n * 36) (replicate 36 0) xs
+    → hsFrom ys ≡ putHeader n noHeader (hsFrom xs)
+zeros-put xs ys n l lo hi e = ap hsFrom (e ∙ ap (λ (r : List ℕ). splice (n * 36) r xs) (sym no-header-bytes)) ∙ header-put xs l n lo hi noHeader zeros-fit
+
+pub destroyed : (xs ys : List ℕ) (n : ℕ) → length xs ≡ headersLength → 1 ≤ n → n ≤ headerSlots → ys ≡ splice (n * 36) (replicate 36 0) xs
     → destroyHeader n (hsFrom xs) ≡ gone n (hsFrom ys)
 unfolding destroyHeader
-destroyed xs ys n h l lo hi eh ey = ap (gone n) (sym (zeros-put xs ys n h l lo hi eh ey))
+destroyed xs ys n l lo hi e = ap (gone n) (sym (zeros-put xs ys n l lo hi e))
 
 -- the sweep of the headers that xs holds has come to number n: the table is ys, all else in it as it was, and m were expired
 pub record SweptHeaders (time : ℕ) (xs : List ℕ) (n : ℕ) (ys : List ℕ) (m : ℕ) : Type 0 where
@@ -124,10 +139,10 @@ module _ (time : ℕ) (xs : List ℕ) where
         (i .rest ∙ ap (λ (l : List Header). withHeaders l (hsFrom xs)) (ends-list (i .swept) past))
 
     module _ (lo : 1 ≤ n) (hi : n ≤ headerSlots) where
-      pub sweep-passes : (zs : List ℕ) (h : Header) → length ys ≡ headersLength → h ≡ noHeader → zs ≡ splice (n * 36) (headerBytes h) ys → headerExpired time (headerAt (hsFrom ys) n) ≡ true
+      pub sweep-passes : (zs : List ℕ) → length ys ≡ headersLength → zs ≡ splice (n * 36) (replicate 36 0) ys → headerExpired time (headerAt (hsFrom ys) n) ≡ true
           → SweptHeaders time xs (n + 1) zs (m + 1)
-      sweep-passes zs h l eh ez e =
-          let put : hsFrom zs ≡ putHeader n noHeader (hsFrom ys) = zeros-put ys zs n h l lo hi eh ez in
+      sweep-passes zs l ez e =
+          let put : hsFrom zs ≡ putHeader n noHeader (hsFrom ys) = zeros-put ys zs n l lo hi ez in
           record {
             rest = rw put (ap (putHeader n noHeader) (i .rest));
             swept = rw put (passes (i .swept) lo (omega (arith, slots xs)) e);

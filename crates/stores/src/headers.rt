@@ -3,7 +3,7 @@ ghost use mathlib.Core.Path.{_≡_};
 ghost use Prim.Native.Nat.{_≤_, _<_};
 ghost use lib.ListN.{length};
 ghost use Rattle.paper.specs.Lists.{lowest};
-ghost use Rattle.paper.specs.Tables.{headerFree, headerExpired, headerSlots, headerAt, noHeader};
+ghost use Rattle.paper.specs.Tables.{headerFree, headerExpired, headerSlots, headerAt};
 ghost use Rattle.paper.specs.Stores.{gone, hasId, readHeader, createHeader, replaceHeader, destroyHeader, scavengeHeaders};
 ghost use Rattle.paper.specs.Steps.{done, attempt};
 ghost use Rattle.paper.specs.Bytes.{headersLength, hsFrom};
@@ -11,7 +11,6 @@ ghost use Rattle.records.specs.Fits.{HeaderFits};
 use paper::FileId;
 use paper::Found;
 use paper::Header;
-use paper::PageId;
 use paper::Step;
 
 const HEADERS: usize = 64;
@@ -28,13 +27,11 @@ fn has_id(headers: &[u8], n: usize, time: u32, id: FileId) -> bool
     requires { ⌜ (length (now headers) ≡ headersLength) × (1 ≤ n) × (n ≤ headerSlots) ⌝ }
     ensures { λ r. ⌜ r ≡ hasId time id (headerAt (hsFrom (now (headers .entry))) n) ⌝ }
 {
-    let k = records::header_key(headers, n);
-    let i = k.id;
-    if k.used {
-        if time < k.expires { i.0 == id.0 } else { false }
-    } else {
-        false
+    if !records::in_use_as(headers, n, id) {
+        return false;
     }
+    let k = records::header_key(headers, n);
+    time < k.expires
 }
 
 pub fn lowest_free_header(headers: &[u8], time: u32) -> Found
@@ -131,20 +128,6 @@ pub fn create_header(headers: &mut [u8], outcome: u8, time: u32, h: Header) -> S
     }
 }
 
-fn no_header() -> Header
-    ensures { λ r. ⌜ r ≡ noHeader ⌝ }
-{
-    Header {
-        used: false,
-        id: FileId(0),
-        owner: 0,
-        created: 0,
-        updated: 0,
-        expires: 0,
-        pages: [PageId(0); 16],
-    }
-}
-
 // Step: zeros over the slot.
 pub fn destroy_header(headers: &mut [u8], outcome: u8, n: usize) -> Step
     requires { ⌜ (length (now headers) ≡ headersLength) × (1 ≤ n) × (n ≤ headerSlots) ⌝ }
@@ -152,7 +135,7 @@ pub fn destroy_header(headers: &mut [u8], outcome: u8, n: usize) -> Step
 {
     match outcome {
         0 => {
-            records::put_header(headers, n, no_header());
+            records::zero_header(headers, n);
             Step::Gone(n as u32)
         }
         1 => Step::Refused(9),
@@ -177,7 +160,7 @@ fn sweep_headers(headers: &mut [u8], time: u32) -> u32
     let mut n = 1;
     while n <= HEADERS {
         if expired_header(headers, n, time) {
-            records::put_header(headers, n, no_header());
+            records::zero_header(headers, n);
             swept += 1;
         }
         n += 1;

@@ -1,11 +1,11 @@
--- `begins` is the field of the last 8 - j % 9 bits of byte j: they are the first bits of number j - j / 9, whose field starts there.
+-- `begins` is the field of the last 8 - j bits of byte j: they are the first bits of number j, whose field starts there.
 use mathlib.Core.Path.{_≡_, refl, sym, ap, _∙_}
-use Prim.Native.Nat.{ℕ, _+_, _-_, _*_, _/_, _%_, _^_}
+use Prim.Native.Nat.{ℕ, _+_, _-_, _*_, _/_, _^_}
 use native.Mathlib.Omega.{arith}
 use lib.ListN.{length}
 use borrow.Author.Needs.{needs}
 use denote.Ref.{now}
-use Rattle.bits.specs.Field.{field, pack, nines}
+use Rattle.bits.specs.Field.{pack, halfNines}
 use Rattle.bits.proofs.Within.{within-length}
 use Rattle.bits.proofs.Layouts.{length-pack}
 use Rattle.bits.proofs.Fields.{field-front, field-none, packed}
@@ -15,10 +15,7 @@ use Rattle.bits.proofs.begins.Tie as tie
 returns : tie.Need-returns
 returns c =
     let s = c .before in
-    field-none (8 * s .args .j + s .args .j % 9) (8 - s .args .j % 9) (pack nines (now (s .args .ids))) (omega arith)
-
-sub-i : tie.Need-sub-i
-sub-i c = search needs
+    field-none (9 * s .args .j) (8 - s .args .j) (pack halfNines (now (s .args .ids))) (omega arith)
 
 mul-result : tie.Need-mul-result
 mul-result c = search needs
@@ -40,21 +37,16 @@ returns-2 c =
     let s = c .before .before in
     let j = s .args .j in
     let vs = now (s .args .ids) in
-    let b = pack nines vs in
-    let i = j - j / 9 in
-    let r = j % 9 in
-    let l : length b ≡ 18 = length-pack nines 18 refl vs in
-    let o : 9 * i ≡ 8 * j + r = omega arith in
-    ap (λ (n : ℕ). n / 2 ^ (r + 1)) (sym (packed 16 9 18 i vs refl (s .pre .1) (omega arith)))
-    ∙ field-front (9 * i) 9 (8 - r) (r + 1) b (omega arith) (omega arith)
-    ∙ ap (λ (n : ℕ). field n (8 - r) b) o
+    let b = pack halfNines vs in
+    let l : length b ≡ 9 = length-pack halfNines 9 refl vs in
+    ap (λ (n : ℕ). n / 2 ^ (j + 1)) (sym (packed 8 9 9 j vs refl (s .pre .1) (omega arith)))
+    ∙ field-front (9 * j) 9 (8 - j) (j + 1) b (omega arith) (omega arith)
 
 pub begins-spec : {M : Type 1} → statement M
 begins-spec =
     tie.close
     (tie.spec
     returns
-    sub-i
     mul-result
     shared-slice-read-result
     add-result

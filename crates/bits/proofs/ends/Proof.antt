@@ -1,13 +1,13 @@
--- `ends` is the field of the first j % 9 bits of byte j: they are the last bits of number j - j / 9 - 1, whose field ends there.
+-- `ends` is the field of the first j bits of byte j: they are the last bits of number j - 1, whose field ends there.
 use mathlib.Core.Path.{_≡_, refl, sym, ap₂, _∙_, subst}
-use Prim.Native.Nat.{ℕ, _-_, _*_, _/_, _%_, _^_, _<_}
+use Prim.Native.Nat.{ℕ, _-_, _*_, _%_, _^_, _<_}
 use native.Mathlib.Nat.{one-mul}
 use native.Mathlib.Omega.{arith}
 use lib.ListN.{length}
 use lib.Pow.{shl-exact, pow-pos}
 use borrow.Author.Needs.{needs}
 use denote.Ref.{now}
-use Rattle.bits.specs.Field.{pack, nines}
+use Rattle.bits.specs.Field.{pack, halfNines}
 use Rattle.bits.proofs.Within.{within-length}
 use Rattle.bits.proofs.Layouts.{length-pack}
 use Rattle.bits.proofs.Fields.{field-back, field-none, packed}
@@ -17,13 +17,10 @@ use Rattle.bits.proofs.ends.Tie as tie
 returns : tie.Need-returns
 returns c =
     let s = c .before in
-    field-none (8 * s .args .j) (s .args .j % 9) (pack nines (now (s .args .ids))) (omega arith)
+    field-none (8 * s .args .j) (s .args .j) (pack halfNines (now (s .args .ids))) (omega arith)
 
-sub-i : tie.Need-sub-i
-sub-i c = search needs
-
-sub-i-2 : tie.Need-sub-i-2
-sub-i-2 c = search needs
+sub-result : tie.Need-sub-result
+sub-result c = search needs
 
 mul-result : tie.Need-mul-result
 mul-result c = search needs
@@ -37,33 +34,31 @@ cast-result c = search needs
 shl-result : tie.Need-shl-result
 shl-result c = search needs
 
-one-shl : (r : ℕ) → r < 9 → (1 * 2 ^ r) % 65536 ≡ 2 ^ r
-one-shl r h = shl-exact {a = 1} 1 r 16 (omega arith) (omega arith) ∙ one-mul (2 ^ r)
+one-shl : (j : ℕ) → j < 9 → (1 * 2 ^ j) % 65536 ≡ 2 ^ j
+one-shl j h = shl-exact {a = 1} 1 j 16 (omega arith) (omega arith) ∙ one-mul (2 ^ j)
 
 rem-result : tie.Need-rem-result
 rem-result c =
-    let r = c .before .before .args .j % 9 in
-    subst (λ (n : ℕ). 0 < n) (sym (one-shl r (omega arith))) (pow-pos r)
+    let j = c .before .before .args .j in
+    subst (λ (n : ℕ). 0 < n) (sym (one-shl j (omega arith))) (pow-pos j)
 
 returns-2 : tie.Need-returns-2
 returns-2 c =
     let s = c .before .before in
     let j = s .args .j in
     let vs = now (s .args .ids) in
-    let b = pack nines vs in
-    let i = j - j / 9 - 1 in
-    let r = j % 9 in
-    let l : length b ≡ 18 = length-pack nines 18 refl vs in
-    ap₂ (λ (m n : ℕ). m % n) (sym (packed 16 9 18 i vs refl (s .pre .1) (omega arith))) (one-shl r (omega arith))
-    ∙ field-back (9 * i) 9 (8 * j) r b (omega arith) (omega arith) (omega arith)
+    let b = pack halfNines vs in
+    let i = j - 1 in
+    let l : length b ≡ 9 = length-pack halfNines 9 refl vs in
+    ap₂ (λ (m n : ℕ). m % n) (sym (packed 8 9 9 i vs refl (s .pre .1) (omega arith))) (one-shl j (omega arith))
+    ∙ field-back (9 * i) 9 (8 * j) j b (omega arith) (omega arith) (omega arith)
 
 pub ends-spec : {M : Type 1} → statement M
 ends-spec =
     tie.close
     (tie.spec
     returns
-    sub-i
-    sub-i-2
+    sub-result
     mul-result
     shared-slice-read-result
     cast-result

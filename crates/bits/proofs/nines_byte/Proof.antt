@@ -1,4 +1,4 @@
--- `nines_byte` is byte j of the packed numbers: the field of its 8 bits is that of its first j % 9 and that of the others.
+-- `nines_byte` is byte j of the packed numbers: the field of its 8 bits is that of its first j and that of the others.
 use mathlib.Core.Path.{_≡_, refl, sym, ap, ap₂, _∙_}
 use Prim.Native.Nat.{ℕ, _+_, _-_, _*_, _%_, _^_, _<_}
 use native.Mathlib.Omega.{arith}
@@ -6,7 +6,7 @@ use lib.ListN.{length, getD}
 use lib.Pow.{shl-exact}
 use borrow.Author.Needs.{needs}
 use denote.Ref.{now}
-use Rattle.bits.specs.Field.{field, pack, nines}
+use Rattle.bits.specs.Field.{field, pack, halfNines}
 use Rattle.bits.proofs.Layouts.{length-pack, pack-bytes}
 use Rattle.bits.proofs.Fields.{field-lt, field-join, byte}
 use Rattle.bits.proofs.nines_byte.Statement.{statement}
@@ -28,25 +28,25 @@ begins-requires : tie.Need-begins-requires
 begins-requires c κs = search needs
 
 abbrev wanted : tie.After-begins → ℕ
-wanted c = getD (pack nines (now (c .before .before .before .args .ids))) (c .before .before .before .args .j) 0
+wanted c = getD (pack halfNines (now (c .before .before .before .args .ids))) (c .before .before .before .args .j) 0
 
 small : (c : tie.After-begins) → wanted c < 256
-small c = pack-bytes nines (now (c .before .before .before .args .ids)) (c .before .before .before .args .j)
+small c = pack-bytes halfNines (now (c .before .before .before .args .ids)) (c .before .before .before .args .j)
 
-sum : (c : tie.After-begins) → (c .before .ends .result * 2 ^ (8 - c .before .before .before .args .j % 9)) % 65536 + c .begins .result ≡ wanted c
+sum : (c : tie.After-begins) → (c .before .ends .result * 2 ^ (8 - c .before .before .before .args .j)) % 65536 + c .begins .result ≡ wanted c
 sum c =
     let j = c .before .before .before .args .j in
-    let r = j % 9 in
     let vs = now (c .before .before .before .args .ids) in
-    let b = pack nines vs in
-    let l : length b ≡ 18 = length-pack nines 18 refl vs in
-    let w : r + (8 - r) ≡ 8 = omega arith in
-    let x : (field (8 * j) r b * 2 ^ (8 - r)) % 65536 ≡ field (8 * j) r b * 2 ^ (8 - r) =
-    shl-exact r (8 - r) 16 (field-lt (8 * j) r b) (omega arith) in
-    ap₂ (λ (m n : ℕ). (m * 2 ^ (8 - r)) % 65536 + n) (c .before .ends .ensures) (c .begins .ensures)
-    ∙ ap (λ (m : ℕ). m + field (8 * j + r) (8 - r) b) x
-    ∙ sym (field-join (8 * j) r (8 - r) b (omega arith)) ∙ ap (λ (n : ℕ). field (8 * j) n b) w
-    ∙ sym (byte j (8 * j) b (pack-bytes nines vs) (omega arith) refl)
+    let b = pack halfNines vs in
+    let l : length b ≡ 9 = length-pack halfNines 9 refl vs in
+    let w : j + (8 - j) ≡ 8 = omega arith in
+    let o : 9 * j ≡ 8 * j + j = omega arith in
+    let x : (field (8 * j) j b * 2 ^ (8 - j)) % 65536 ≡ field (8 * j) j b * 2 ^ (8 - j) =
+    shl-exact j (8 - j) 16 (field-lt (8 * j) j b) (omega arith) in
+    ap₂ (λ (m n : ℕ). (m * 2 ^ (8 - j)) % 65536 + n) (c .before .ends .ensures) (c .begins .ensures)
+    ∙ ap₂ (λ (m n : ℕ). m + field n (8 - j) b) x o
+    ∙ sym (field-join (8 * j) j (8 - j) b (omega arith)) ∙ ap (λ (n : ℕ). field (8 * j) n b) w
+    ∙ sym (byte j (8 * j) b (pack-bytes halfNines vs) (omega arith) refl)
 
 add-result : tie.Need-add-result
 add-result c = record { fits = omega (arith, sum c, small c) }

@@ -1,80 +1,87 @@
--- `put_nines` splices in the packed numbers: after j turns the first j of their bytes are pasted in.
-use mathlib.Core.Path.{_≡_, refl, sym, ap, ap₂, _∙_}
-use mathlib.Core.List.{List}
-use Prim.Native.Nat.{ℕ, _+_, _-_, _≤_}
-use native.Mathlib.Numerals.{add-one}
+-- `put_nines` splices in the packed numbers: eight of them are nine whole bytes, so the halves are spliced in one after the other.
+use mathlib.Core.Path.{_≡_, refl, sym, ap, _∙_}
+use mathlib.Core.List.{List, [], _++_}
+use Prim.Native.Nat.{ℕ, _+_}
 use native.Mathlib.Omega.{arith}
-use lib.ListN.{length, set, length-set}
-use lib.Seq.{paste, paste-zero, paste-suc}
+use lib.ListN.{length, take, drop}
+use lib.Seq.{take-all, take-add}
 use borrow.Author.Needs.{needs}
 use denote.Ref.{now}
-use Rattle.bits.specs.Field.{pack, nines}
+use Rattle.bits.specs.Field.{pack, splice, nines, halfNines, Within}
+use Rattle.bits.proofs.Within.{within-length, within-take, within-drop}
 use Rattle.bits.proofs.Layouts.{length-pack}
-use Rattle.bits.proofs.Splice.{paste-splice}
+use Rattle.bits.proofs.Splice.{splice-splice, pack-append}
 use Rattle.bits.proofs.put_nines.Statement.{statement}
 use Rattle.bits.proofs.put_nines.Tie as tie
 
-abbrev Inv-loop : tie.InvT-loop
-Inv-loop s₀ at ids j₀ s j = (j ≤ 18) × (length s ≡ length s₀) × (s ≡ paste s₀ at (pack nines ids) j)
+first : {vs : List ℕ} → Within nines vs → Within halfNines (take 8 vs)
+first r = within-take halfNines halfNines r
 
-abbrev μ-loop : tie.MeasureT-loop
-μ-loop s₀ at ids j₀ s j = 18 - j
+last : {vs : List ℕ} → Within nines vs → Within halfNines (take 8 (drop 8 vs))
+last r = within-take halfNines [] (within-drop halfNines halfNines r)
 
-loop-holds : tie.Need-loop-holds Inv-loop μ-loop
-loop-holds c = (omega arith, refl, paste-zero (now (c .before .before .args .s)) (c .before .before .args .at) (pack nines (now (c .before .before .args .ids))))
+halves : (vs : List ℕ) → Within nines vs → pack nines vs ≡ pack halfNines (take 8 vs) ++ pack halfNines (take 8 (drop 8 vs))
+halves vs r =
+    ap (pack nines) (sym (take-all 16 vs (omega (arith, within-length r))) ∙ take-add 8 8 vs)
+    ∙ pack-append halfNines halfNines 9 9 refl refl (first r) (last r)
 
-nines-byte-requires : tie.Need-nines-byte-requires Inv-loop μ-loop
-nines-byte-requires c κs = search needs
+sub-put-half : tie.Need-sub-put-half
+sub-put-half c = search needs
 
-add-s : tie.Need-add-s Inv-loop μ-loop
-add-s c = search needs
+part-put-half-start : tie.Need-part-put-half-start
+part-put-half-start c = search needs
 
-slice-write-s : tie.Need-slice-write-s Inv-loop μ-loop
-slice-write-s c = search needs
+part-put-half-end : tie.Need-part-put-half-end
+part-put-half-end c = omega (arith, within-length (c .before .before .before .pre .1))
 
-add-j : tie.Need-add-j Inv-loop μ-loop
-add-j c = search needs
+put-half-requires : tie.Need-put-half-requires
+put-half-requires c κs = (omega arith, first (c .before .before .before .before .pre .1))
 
-loop-less : tie.Need-loop-less Inv-loop μ-loop
-loop-less c = search needs
+add-put-half : tie.Need-add-put-half
+add-put-half c = search needs
 
-loop-again : tie.Need-loop-again Inv-loop μ-loop
-loop-again c =
-    let l = c .before .before .loop in
-    let s = c .before .before .before .before .before in
-    let b = pack nines (now (s .args .ids)) in
-    let lb : length b ≡ 18 = length-pack nines 18 refl (now (s .args .ids)) in (
-      omega arith,
-      length-set (l .s) (s .args .at + l .j) (c .nines-byte .result) ∙ l .inv .1,
-      ap₂ (λ (x : List ℕ) (v : ℕ). set x (s .args .at + l .j) v) (l .inv .2) (c .nines-byte .ensures)
-          ∙ paste-suc (now (s .args .s)) (s .args .at) b (l .j) 0 (omega arith) (omega arith)
-          ∙ ap (λ (k : ℕ). paste (now (s .args .s)) (s .args .at) b k) (sym (add-one (l .j))),
-    )
+sub-put-half-2 : tie.Need-sub-put-half-2
+sub-put-half-2 c = search needs
 
-same-length : tie.Need-same-length Inv-loop μ-loop
+part-put-half-start-2 : tie.Need-part-put-half-start-2
+part-put-half-start-2 c = search needs
+
+part-put-half-end-2 : tie.Need-part-put-half-end-2
+part-put-half-end-2 c = omega (arith, within-length (c .before .before .before .before .before .before .before .before .pre .1))
+
+put-half-requires-2 : tie.Need-put-half-requires-2
+put-half-requires-2 c κs = (omega arith, last (c .before .before .before .before .before .before .before .before .before .pre .1))
+
+same-length : tie.Need-same-length
 same-length c = search needs
 
-returns : tie.Need-returns Inv-loop μ-loop
+returns : tie.Need-returns
 returns c =
-    let l = c .before .loop in
-    let s = c .before .before .before .before in
-    let b = pack nines (now (s .args .ids)) in
-    let lb : length b ≡ 18 = length-pack nines 18 refl (now (s .args .ids)) in
-    let e : l .j ≡ length b = omega arith in
-    l .inv .2 ∙ ap (λ (k : ℕ). paste (now (s .args .s)) (s .args .at) b k) e ∙ paste-splice (s .args .at) b (now (s .args .s)) (omega arith)
+    let c2 = c .before .before in
+    let c1 = c2 .before .before .before .before .before in
+    let s = c1 .before .before .before .before .before in
+    let at = s .args .at in
+    let vs = now (s .args .ids) in
+    let xs = now (s .args .s) in
+    let a = pack halfNines (take 8 vs) in
+    let b = pack halfNines (take 8 (drop 8 vs)) in
+    let la : length a ≡ 9 = length-pack halfNines 9 refl (take 8 vs) in
+    let lb : length b ≡ 9 = length-pack halfNines 9 refl (take 8 (drop 8 vs)) in
+    c2 .put-half2 .ensures ∙ ap (splice (at + 9) b) (c1 .put-half .ensures)
+    ∙ splice-splice at (at + 9) a b xs (omega arith) (omega arith) ∙ ap (λ (l : List ℕ). splice at l xs) (sym (halves vs (s .pre .1)))
 
 pub put-nines-spec : {M : Type 1} → statement M
 put-nines-spec =
     tie.close
     (tie.spec
-    Inv-loop
-    μ-loop
-    loop-holds
-    nines-byte-requires
-    add-s
-    slice-write-s
-    add-j
-    loop-less
-    loop-again
+    sub-put-half
+    part-put-half-start
+    part-put-half-end
+    put-half-requires
+    add-put-half
+    sub-put-half-2
+    part-put-half-start-2
+    part-put-half-end-2
+    put-half-requires-2
     same-length
     returns)

@@ -1,111 +1,48 @@
--- `held_once` tests each page id but 0 against its slot and the map, and marks it: what is gathered and what is left decide.
-use Prim.Native.Nat.{_-_, _≤_, _<_}
-use mathlib.Core.Path.{_≡_, refl, ap, _∙_}
-use mathlib.Core.Logic.{⊎-elim}
+-- `held_once` walks one half, then the other over the map as the first left it.
+use Prim.Native.Nat.{_≤_}
+use mathlib.Core.Path.{_≡_, ap, ap₂, _∙_}
+use mathlib.Core.Bool.{Bool, _&&_}
+use mathlib.Core.List.{List}
 use native.Mathlib.Omega.{arith}
-use borrow.Author.Tests.{leb-true}
-use lib.ListN.{length, getD, length-set}
-use Rattle.paper.specs.Ids.{pageId}
-use Rattle.paper.specs.Bytes.{psFrom}
+use lib.ListN.{length, take, drop}
+use denote.Ref.{now}
+use Rattle.paper.specs.Bytes.{psFrom, idsOf}
 use Rattle.stores.specs.Geometry.{bank}
-use Rattle.sound.specs.Seen.{idWithin, heldTo}
-use Rattle.paper.proofs.Tests.{all-at}
-use Rattle.sound.proofs.Records.{held-null}
-use Rattle.sound.proofs.Seen.{Walked, walk-starts, walk-null, walk-id, walk-ends}
+use Rattle.sound.specs.Seen.{marked, heldTo, once}
+use Rattle.sound.proofs.Seen.{once-halves, marked-halves}
 use borrow.Author.Needs.{needs}
 use Rattle.sound.proofs.held_once.Statement.{statement}
 use Rattle.sound.proofs.held_once.Tie as tie
 
-abbrev Inv-loop : tie.InvT-loop
-Inv-loop pages slots size expires seen₀ ids good₀ k₀ seen good k = (k ≤ 16) × (length seen ≡ length seen₀) × Walked (heldTo (bank slots size) (psFrom (bank slots size) pages) expires) ids seen₀ k seen good
-
-abbrev μ-loop : tie.MeasureT-loop
-μ-loop pages slots size expires seen₀ ids good₀ k₀ seen good k = 16 - k
-
-abbrev start : tie.In-loop Inv-loop μ-loop → tie.Start Inv-loop μ-loop
-start t = t .before .before .before .before
-
-sixteen : (s : tie.Start Inv-loop μ-loop) → length (s .args .t4) ≡ 16
+sixteen : (s : tie.Start) → length (s .args .ids) ≡ 16
 sixteen s = search needs
 
-index : (t : tie.In-loop Inv-loop μ-loop) → t .before .loop .k < length (start t .args .t4)
-index t = omega (arith, sixteen (start t))
+held-half-requires : tie.Need-held-half-requires
+held-half-requires c κs = search needs
 
--- each names a slot of the table
-in-slots : (t : tie.In-loop Inv-loop μ-loop) → getD (start t .args .t4) (t .before .loop .k) (pageId 0) .0 ≤ start t .args .slots
-in-slots t =
-    let a = start t .args in
-    leb-true _ _ (all-at (idWithin (a .slots)) (pageId 0) (t .before .loop .k) (a .t4) (start t .pre .1 .1) (index t))
+held-half-requires-2 : tie.Need-held-half-requires-2
+held-half-requires-2 c κs =
+    let h = c .before .before .before in
+    let s = h .before .before .before .before in
+    (s .pre .0, ((omega (arith, h .held-half .kept .1 .1 .1 .1 .1 .1 .0), s .pre .1 .1), omega arith))
 
-loop-holds : tie.Need-loop-holds Inv-loop μ-loop
-loop-holds c = (omega arith, refl, walk-starts _ _ _)
-
-mul-p : tie.Need-mul-p Inv-loop μ-loop
-mul-p c = search needs
-
-array-copy-out-p : tie.Need-array-copy-out-p Inv-loop μ-loop
-array-copy-out-p c = search needs
-
-cast-n : tie.Need-cast-n Inv-loop μ-loop
-cast-n c = search needs
-
-page-held-requires : tie.Need-page-held-requires Inv-loop μ-loop
-page-held-requires c κs =
-    let s = start (c .before .before .before) in
-    (s .pre .0, (omega arith, in-slots (c .before .before .before)))
-
-sub-again : tie.Need-sub-again Inv-loop μ-loop
-sub-again c = search needs
-
-slice-read-again : tie.Need-slice-read-again Inv-loop μ-loop
-slice-read-again c = omega (arith, in-slots (c .before .before .before .before .before))
-
-sub-seen : tie.Need-sub-seen Inv-loop μ-loop
-sub-seen c = search needs
-
-slice-write-seen : tie.Need-slice-write-seen Inv-loop μ-loop
-slice-write-seen c = omega (arith, in-slots (c .before .before .before .before .before))
-
-add-k : tie.Need-add-k Inv-loop μ-loop
-add-k c = search needs
-
-loop-less : tie.Need-loop-less Inv-loop μ-loop
-loop-less c = search needs
-
-loop-again : tie.Need-loop-again Inv-loop μ-loop
-loop-again c =
-    let t = c .before .before .before in
-    let s = start t in
-    let l = t .before .loop in
-    let i = l .inv .2 in
-    ⊎-elim
-    (λ w. (omega arith, ap length (w .3) ∙ simp length-set (l .inv .1), rw (w .3, w .4) (walk-id i (index t) (omega arith) _ _ (w .1 .ensures) refl)))
-    (λ w. (omega arith, ap length (w .1) ∙ l .inv .1, rw (w .1, w .2) (walk-null i (index t) (omega arith) (held-null _ _ _ _ (omega arith)))))
-    (c .if1 .came)
-
-same-length : tie.Need-same-length Inv-loop μ-loop
+same-length : tie.Need-same-length
 same-length c = search needs
 
-returns : tie.Need-returns Inv-loop μ-loop
-returns c = walk-ends (c .before .loop .inv .2) (omega (arith, sixteen (c .before .before .before .before)))
+returns : tie.Need-returns
+returns c =
+    let two = c .before .before in
+    let one = two .before .before .before .before in
+    let s = one .before .before .before .before in
+    let a = s .args in
+    let f = heldTo (bank (a .slots) (a .size)) (psFrom (bank (a .slots) (a .size)) (now (a .pages))) (a .expires) in
+    let seen = now (a .seen) in
+    let few : length (a .ids) ≤ 16 = omega (arith, sixteen s) in
+    let left = one .held-half .ensures .1 in
+    let rest = take 8 (drop 8 (a .ids)) in (
+      ap₂ (λ (p q : Bool). p && q) (one .held-half .ensures .0) (two .held-half2 .ensures .0 ∙ ap (λ (l : List Bool). once f l rest) left) ∙ once-halves seen (a .ids) few f,
+      two .held-half2 .ensures .1 ∙ ap (λ (l : List Bool). marked l (idsOf rest)) left ∙ marked-halves seen (a .ids) few,
+    )
 
 pub held-once-spec : {M : Type 1} → statement M
-held-once-spec =
-    tie.close
-    (tie.spec
-    Inv-loop
-    μ-loop
-    loop-holds
-    mul-p
-    array-copy-out-p
-    cast-n
-    page-held-requires
-    sub-again
-    slice-read-again
-    sub-seen
-    slice-write-seen
-    add-k
-    loop-less
-    loop-again
-    same-length
-    returns)
+held-once-spec = tie.close (tie.spec held-half-requires held-half-requires-2 same-length returns)

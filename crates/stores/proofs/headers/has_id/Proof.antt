@@ -1,28 +1,29 @@
--- `has_id` tests the slot's key, which has the header's three fields.
+-- `has_id` asks whether the slot is in use under the id, and only then for its expiry.
+use mathlib.Core.Path.{sym, _∙_}
 use borrow.Author.Needs.{needs}
-use Rattle.stores.proofs.HeaderSlots.{live-has, expired-has-not, unused-has-not}
+use borrow.Author.Tests.{not-true, not-false}
+use Rattle.stores.proofs.HeaderSlots.{named-has, other-has-not}
 use Rattle.stores.proofs.headers.has_id.Statement.{statement}
 use Rattle.stores.proofs.headers.has_id.Tie as tie
+
+in-use-as-requires : tie.Need-in-use-as-requires
+in-use-as-requires c κs = search needs
+
+returns : tie.Need-returns
+returns c =
+    let i = c .before in
+    let s = i .before .before in
+    other-has-not _ (s .args .id) _ _ (s .pre .1) (s .pre .2) (sym (i .in-use-as .ensures) ∙ not-true _ (c .if1 .taken))
 
 header-key-requires : tie.Need-header-key-requires
 header-key-requires c κs = search needs
 
-returns : tie.Need-returns
-returns c =
-    let b = c .before .before .before .before in
-    let s = b .before .before .before .before in
-    live-has _ _ _ _ (s .pre .1) (s .pre .2) (b .before .before .header-key .ensures) (s .args .id) (b .if1 .taken) (c .before .before .if2 .taken)
-
 returns-2 : tie.Need-returns-2
 returns-2 c =
-    let b = c .before .before in
-    let s = b .before .before .before .before in
-    expired-has-not _ _ _ _ (s .pre .1) (s .pre .2) (b .before .before .header-key .ensures) (s .args .id) (b .if1 .taken) (c .if2 .left)
-
-returns-3 : tie.Need-returns-3
-returns-3 c =
-    let s = c .before .before .before .before in
-    unused-has-not _ _ _ _ (s .pre .1) (s .pre .2) (c .before .before .header-key .ensures) (s .args .id) (c .if1 .left)
+    let k = c .before in
+    let i = k .before .before in
+    let s = i .before .before in
+    named-has _ (s .args .id) _ _ (s .pre .1) (s .pre .2) _ (sym (i .in-use-as .ensures) ∙ not-false _ (k .before .if1 .left)) (k .header-key .ensures)
 
 pub has-id-spec : {M : Type 1} → statement M
-has-id-spec = tie.close (tie.spec header-key-requires returns returns-2 returns-3)
+has-id-spec = tie.close (tie.spec in-use-as-requires returns header-key-requires returns-2)

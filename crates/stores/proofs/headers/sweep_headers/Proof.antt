@@ -1,12 +1,11 @@
 -- `sweep_headers` writes zeros over the expired headers in order: at number n the table is as a sweep of the headers leaves it there, and `swept` counts them.
 use Prim.Native.Nat.{_+_, _-_, _≤_}
-use mathlib.Core.Path.{_≡_, refl, sym, ap, subst, _∙_}
+use mathlib.Core.Path.{_≡_, refl, sym, ap, _∙_}
 use mathlib.Core.Logic.{⊎-elim}
 use native.Mathlib.Omega.{arith}
 use lib.ListN.{length}
 use Rattle.paper.specs.Tables.{headerSlots}
-use Rattle.records.specs.Fits.{HeaderFits}
-use Rattle.stores.proofs.HeaderSlots.{zeros-fit, SweptHeaders, sweep-starts, few-swept, sweep-passes, sweep-fails, swept-headers}
+use Rattle.stores.proofs.HeaderSlots.{SweptHeaders, sweep-starts, few-swept, sweep-passes, sweep-fails, swept-headers}
 use borrow.Author.Needs.{needs}
 use Rattle.stores.proofs.headers.sweep_headers.Statement.{statement}
 use Rattle.stores.proofs.headers.sweep_headers.Tie as tie
@@ -23,15 +22,12 @@ loop-holds c = (omega arith, omega arith, refl, sweep-starts _ _)
 expired-header-requires : tie.Need-expired-header-requires Inv-loop μ-loop
 expired-header-requires c κs = search needs
 
-no-header-requires : tie.Need-no-header-requires Inv-loop μ-loop
-no-header-requires c κs = search needs
-
-put-header-requires : tie.Need-put-header-requires Inv-loop μ-loop
-put-header-requires c κs = (omega arith, subst HeaderFits (sym (c .no-header .ensures)) zeros-fit)
+zero-header-requires : tie.Need-zero-header-requires Inv-loop μ-loop
+zero-header-requires c κs = search needs
 
 add-swept : tie.Need-add-swept Inv-loop μ-loop
 add-swept c =
-    let l = c .before .before .before .before .before .before .before .before .before .loop in
+    let l = c .before .before .before .before .before .before .before .before .loop in
     omega (arith, few-swept _ _ _ _ _ (l .inv .3))
 
 add-n : tie.Need-add-n Inv-loop μ-loop
@@ -50,8 +46,8 @@ loop-again c =
     (λ w. (
       omega arith,
       omega arith,
-      omega (arith, ap length (w .6)),
-      rw (w .7) (sweep-passes _ _ _ _ _ (l .inv .3) (l .inv .0) (t .loop-test .taken) _ _ whole (w .2 .ensures) (w .6 ∙ w .3 .ensures) (sym r ∙ w .0 .taken)),
+      omega (arith, ap length (w .5)),
+      rw (w .6) (sweep-passes _ _ _ _ _ (l .inv .3) (l .inv .0) (t .loop-test .taken) _ whole (w .5 ∙ w .2 .ensures) (sym r ∙ w .0 .taken)),
     ))
     (λ w. (
       omega arith,
@@ -75,8 +71,7 @@ sweep-headers-spec =
     μ-loop
     loop-holds
     expired-header-requires
-    no-header-requires
-    put-header-requires
+    zero-header-requires
     add-swept
     add-n
     loop-less
