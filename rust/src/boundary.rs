@@ -169,129 +169,52 @@ pub(crate) struct Call<'a> {
     pub(crate) time: u32,
 }
 
-impl Call<'_> {
-    pub(crate) fn create(self, client: u16, number: PageNum, page: &[u8], expires: u32) -> Answer {
+/// Calls one of the library's functions on the call's buffers, with what else it is given.
+macro_rules! on {
+    ($call:ident, $function:ident $(, $more:expr)*) => {
         // SAFETY: as at the head of this module.
         unsafe {
-            pagefile_create(
-                self.headers.as_mut_ptr(),
-                self.headers.len(),
-                self.pages.as_mut_ptr(),
-                self.pages.len(),
-                self.outcomes.as_ptr(),
-                self.outcomes.len(),
-                self.time,
-                client,
-                number.get(),
-                page.as_ptr(),
-                page.len(),
-                expires,
+            $function(
+                $call.headers.as_mut_ptr(),
+                $call.headers.len(),
+                $call.pages.as_mut_ptr(),
+                $call.pages.len(),
+                $call.outcomes.as_ptr(),
+                $call.outcomes.len(),
+                $call.time
+                $(, $more)*
             )
         }
+    };
+}
+
+#[rustfmt::skip] // One line for each call.
+impl Call<'_> {
+    pub(crate) fn create(self, client: u16, number: PageNum, page: &[u8], expires: u32) -> Answer {
+        on!(self, pagefile_create, client, number.get(), page.as_ptr(), page.len(), expires)
     }
 
     pub(crate) fn write(self, client: u16, id: FileId, number: PageNum, page: &[u8]) -> Answer {
-        // SAFETY: as at the head of this module.
-        unsafe {
-            pagefile_write(
-                self.headers.as_mut_ptr(),
-                self.headers.len(),
-                self.pages.as_mut_ptr(),
-                self.pages.len(),
-                self.outcomes.as_ptr(),
-                self.outcomes.len(),
-                self.time,
-                client,
-                id.get(),
-                number.get(),
-                page.as_ptr(),
-                page.len(),
-            )
-        }
+        on!(self, pagefile_write, client, id.get(), number.get(), page.as_ptr(), page.len())
     }
 
     pub(crate) fn read(self, id: FileId, number: PageNum, page: &mut [u8]) -> Answer {
-        // SAFETY: as at the head of this module.
-        unsafe {
-            pagefile_read(
-                self.headers.as_mut_ptr(),
-                self.headers.len(),
-                self.pages.as_mut_ptr(),
-                self.pages.len(),
-                self.outcomes.as_ptr(),
-                self.outcomes.len(),
-                self.time,
-                id.get(),
-                number.get(),
-                page.as_mut_ptr(),
-                page.len(),
-            )
-        }
+        on!(self, pagefile_read, id.get(), number.get(), page.as_mut_ptr(), page.len())
     }
 
     pub(crate) fn info(self, id: FileId) -> Facts {
-        // SAFETY: as at the head of this module.
-        unsafe {
-            pagefile_info(
-                self.headers.as_mut_ptr(),
-                self.headers.len(),
-                self.pages.as_mut_ptr(),
-                self.pages.len(),
-                self.outcomes.as_ptr(),
-                self.outcomes.len(),
-                self.time,
-                id.get(),
-            )
-        }
+        on!(self, pagefile_info, id.get())
     }
 
     pub(crate) fn destroy(self, client: u16, id: FileId) -> Answer {
-        // SAFETY: as at the head of this module.
-        unsafe {
-            pagefile_destroy(
-                self.headers.as_mut_ptr(),
-                self.headers.len(),
-                self.pages.as_mut_ptr(),
-                self.pages.len(),
-                self.outcomes.as_ptr(),
-                self.outcomes.len(),
-                self.time,
-                client,
-                id.get(),
-            )
-        }
+        on!(self, pagefile_destroy, client, id.get())
     }
 
     pub(crate) fn set_expiry(self, client: u16, id: FileId, expires: u32) -> Answer {
-        // SAFETY: as at the head of this module.
-        unsafe {
-            pagefile_set_expiry(
-                self.headers.as_mut_ptr(),
-                self.headers.len(),
-                self.pages.as_mut_ptr(),
-                self.pages.len(),
-                self.outcomes.as_ptr(),
-                self.outcomes.len(),
-                self.time,
-                client,
-                id.get(),
-                expires,
-            )
-        }
+        on!(self, pagefile_set_expiry, client, id.get(), expires)
     }
 
     pub(crate) fn scavenge(self) -> Swept {
-        // SAFETY: as at the head of this module.
-        unsafe {
-            pagefile_scavenge(
-                self.headers.as_mut_ptr(),
-                self.headers.len(),
-                self.pages.as_mut_ptr(),
-                self.pages.len(),
-                self.outcomes.as_ptr(),
-                self.outcomes.len(),
-                self.time,
-            )
-        }
+        on!(self, pagefile_scavenge)
     }
 }

@@ -6,6 +6,7 @@ mod exported;
 
 use crate::request::{Kind, Reply, Request};
 use crate::tables::Buffers;
+use linked::{border, library, Answer, Facts, Swept};
 
 /// Whose code answers.
 #[derive(Clone, Copy, Debug, PartialEq, Eq)]
@@ -33,28 +34,6 @@ impl Implementation {
     }
 }
 
-#[repr(C)]
-struct Answer {
-    number: u8,
-    id: u32,
-}
-
-#[repr(C)]
-struct Facts {
-    number: u8,
-    owner: u16,
-    created: u32,
-    updated: u32,
-    expires: u32,
-}
-
-#[repr(C)]
-struct Swept {
-    number: u8,
-    headers: u32,
-    pages: u32,
-}
-
 impl From<Answer> for Reply {
     fn from(answer: Answer) -> Reply {
         Reply::new(answer.number, [answer.id, 0, 0, 0])
@@ -77,37 +56,6 @@ impl From<Swept> for Reply {
     }
 }
 
-/// Declares the C functions of one implementation at the border.
-macro_rules! border {
-    ($module:ident, $prefix:literal) => {
-        #[rustfmt::skip] // One line for each C declaration.
-        mod $module {
-            use super::{Answer, Facts, Swept};
-            extern "C" {
-                #[link_name = concat!($prefix, "_format")]
-                pub fn format(h: *mut u8, hl: usize, p: *mut u8, pl: usize) -> u8;
-                #[link_name = concat!($prefix, "_create")]
-                pub fn create(h: *mut u8, hl: usize, p: *mut u8, pl: usize, o: *const u8, ol: usize, time: u32, client: u16, number: u8, page: *const u8, len: usize, expires: u32) -> Answer;
-                #[link_name = concat!($prefix, "_write")]
-                pub fn write(h: *mut u8, hl: usize, p: *mut u8, pl: usize, o: *const u8, ol: usize, time: u32, client: u16, id: u32, number: u8, page: *const u8, len: usize) -> Answer;
-                #[link_name = concat!($prefix, "_read")]
-                pub fn read(h: *mut u8, hl: usize, p: *mut u8, pl: usize, o: *const u8, ol: usize, time: u32, id: u32, number: u8, page: *mut u8, len: usize) -> Answer;
-                #[link_name = concat!($prefix, "_info")]
-                pub fn info(h: *mut u8, hl: usize, p: *mut u8, pl: usize, o: *const u8, ol: usize, time: u32, id: u32) -> Facts;
-                #[link_name = concat!($prefix, "_destroy")]
-                pub fn destroy(h: *mut u8, hl: usize, p: *mut u8, pl: usize, o: *const u8, ol: usize, time: u32, client: u16, id: u32) -> Answer;
-                #[link_name = concat!($prefix, "_set_expiry")]
-                pub fn set_expiry(h: *mut u8, hl: usize, p: *mut u8, pl: usize, o: *const u8, ol: usize, time: u32, client: u16, id: u32, expires: u32) -> Answer;
-                #[link_name = concat!($prefix, "_scavenge")]
-                pub fn scavenge(h: *mut u8, hl: usize, p: *mut u8, pl: usize, o: *const u8, ol: usize, time: u32) -> Swept;
-                #[link_name = concat!($prefix, "_look")]
-                pub fn look(h: *const u8, hl: usize, p: *const u8, pl: usize, time: u32, id: u32, number: u8) -> u16;
-            }
-        }
-    };
-}
-
-border!(library, "pagefile");
 border!(rust, "rust");
 border!(plain_c, "plain_c");
 

@@ -4,34 +4,28 @@ use super::{Answer, Facts, Swept};
 use independent::{HeaderTable, Outcomes, Page, PageTable};
 use std::slice::{from_raw_parts as lent, from_raw_parts_mut as lent_mut};
 
-impl From<independent::Answer> for Answer {
-    fn from(answer: independent::Answer) -> Answer {
-        Answer {
-            number: answer.number,
-            id: answer.id,
-        }
+fn answer(answer: independent::Answer) -> Answer {
+    Answer {
+        number: answer.number,
+        id: answer.id,
     }
 }
 
-impl From<independent::Facts> for Facts {
-    fn from(facts: independent::Facts) -> Facts {
-        Facts {
-            number: facts.number,
-            owner: facts.owner,
-            created: facts.created,
-            updated: facts.updated,
-            expires: facts.expires,
-        }
+fn facts(facts: independent::Facts) -> Facts {
+    Facts {
+        number: facts.number,
+        owner: facts.owner,
+        created: facts.created,
+        updated: facts.updated,
+        expires: facts.expires,
     }
 }
 
-impl From<independent::Swept> for Swept {
-    fn from(swept: independent::Swept) -> Swept {
-        Swept {
-            number: swept.number,
-            headers: swept.headers,
-            pages: swept.pages,
-        }
+fn swept(swept: independent::Swept) -> Swept {
+    Swept {
+        number: swept.number,
+        headers: swept.headers,
+        pages: swept.pages,
     }
 }
 
@@ -48,37 +42,37 @@ mod border {
     #[no_mangle]
     #[inline(never)]
     unsafe extern "C" fn rust_create(h: *mut u8, hl: usize, p: *mut u8, pl: usize, o: *const u8, ol: usize, time: u32, client: u16, number: u8, page: *const u8, len: usize, expires: u32) -> Answer {
-        independent::create(lent_mut(h, hl), lent_mut(p, pl), lent(o, ol), time, client, number, lent(page, len), expires).into()
+        answer(independent::create(lent_mut(h, hl), lent_mut(p, pl), lent(o, ol), time, client, number, lent(page, len), expires))
     }
     #[no_mangle]
     #[inline(never)]
     unsafe extern "C" fn rust_write(h: *mut u8, hl: usize, p: *mut u8, pl: usize, o: *const u8, ol: usize, time: u32, client: u16, id: u32, number: u8, page: *const u8, len: usize) -> Answer {
-        independent::write(lent_mut(h, hl), lent_mut(p, pl), lent(o, ol), time, client, id, number, lent(page, len)).into()
+        answer(independent::write(lent_mut(h, hl), lent_mut(p, pl), lent(o, ol), time, client, id, number, lent(page, len)))
     }
     #[no_mangle]
     #[inline(never)]
     unsafe extern "C" fn rust_read(h: *mut u8, hl: usize, p: *mut u8, pl: usize, o: *const u8, ol: usize, time: u32, id: u32, number: u8, page: *mut u8, len: usize) -> Answer {
-        independent::read(lent_mut(h, hl), lent_mut(p, pl), lent(o, ol), time, id, number, lent_mut(page, len)).into()
+        answer(independent::read(lent_mut(h, hl), lent_mut(p, pl), lent(o, ol), time, id, number, lent_mut(page, len)))
     }
     #[no_mangle]
     #[inline(never)]
     unsafe extern "C" fn rust_info(h: *mut u8, hl: usize, p: *mut u8, pl: usize, o: *const u8, ol: usize, time: u32, id: u32) -> Facts {
-        independent::info(lent_mut(h, hl), lent_mut(p, pl), lent(o, ol), time, id).into()
+        facts(independent::info(lent_mut(h, hl), lent_mut(p, pl), lent(o, ol), time, id))
     }
     #[no_mangle]
     #[inline(never)]
     unsafe extern "C" fn rust_destroy(h: *mut u8, hl: usize, p: *mut u8, pl: usize, o: *const u8, ol: usize, time: u32, client: u16, id: u32) -> Answer {
-        independent::destroy(lent_mut(h, hl), lent_mut(p, pl), lent(o, ol), time, client, id).into()
+        answer(independent::destroy(lent_mut(h, hl), lent_mut(p, pl), lent(o, ol), time, client, id))
     }
     #[no_mangle]
     #[inline(never)]
     unsafe extern "C" fn rust_set_expiry(h: *mut u8, hl: usize, p: *mut u8, pl: usize, o: *const u8, ol: usize, time: u32, client: u16, id: u32, expires: u32) -> Answer {
-        independent::set_expiry(lent_mut(h, hl), lent_mut(p, pl), lent(o, ol), time, client, id, expires).into()
+        answer(independent::set_expiry(lent_mut(h, hl), lent_mut(p, pl), lent(o, ol), time, client, id, expires))
     }
     #[no_mangle]
     #[inline(never)]
     unsafe extern "C" fn rust_scavenge(h: *mut u8, hl: usize, p: *mut u8, pl: usize, o: *const u8, ol: usize, time: u32) -> Swept {
-        independent::scavenge(lent_mut(h, hl), lent_mut(p, pl), lent(o, ol), time).into()
+        swept(independent::scavenge(lent_mut(h, hl), lent_mut(p, pl), lent(o, ol), time))
     }
     #[no_mangle]
     #[inline(never)]
@@ -95,37 +89,37 @@ mod inner {
     #[no_mangle]
     #[inline(never)]
     extern "C" fn rust_create_sound(h: &mut HeaderTable, p: &mut PageTable, o: &Outcomes, time: u32, client: u16, number: u8, page: &Page, expires: u32) -> Answer {
-        independent::create_sound(h, p, o, time, client, number, page, expires).into()
+        answer(independent::create_sound(h, p, o, time, client, number, page, expires))
     }
     #[no_mangle]
     #[inline(never)]
     extern "C" fn rust_write_sound(h: &mut HeaderTable, p: &mut PageTable, o: &Outcomes, time: u32, client: u16, id: u32, number: u8, page: &Page) -> Answer {
-        independent::write_sound(h, p, o, time, client, id, number, page).into()
+        answer(independent::write_sound(h, p, o, time, client, id, number, page))
     }
     #[no_mangle]
     #[inline(never)]
     extern "C" fn rust_read_sound(h: &mut HeaderTable, p: &mut PageTable, o: &Outcomes, time: u32, id: u32, number: u8, page: &mut Page) -> Answer {
-        independent::read_sound(h, p, o, time, id, number, page).into()
+        answer(independent::read_sound(h, p, o, time, id, number, page))
     }
     #[no_mangle]
     #[inline(never)]
     extern "C" fn rust_info_sound(h: &mut HeaderTable, p: &mut PageTable, o: &Outcomes, time: u32, id: u32) -> Facts {
-        independent::info_sound(h, p, o, time, id).into()
+        facts(independent::info_sound(h, p, o, time, id))
     }
     #[no_mangle]
     #[inline(never)]
     extern "C" fn rust_destroy_sound(h: &mut HeaderTable, p: &mut PageTable, o: &Outcomes, time: u32, client: u16, id: u32) -> Answer {
-        independent::destroy_sound(h, p, o, time, client, id).into()
+        answer(independent::destroy_sound(h, p, o, time, client, id))
     }
     #[no_mangle]
     #[inline(never)]
     extern "C" fn rust_set_expiry_sound(h: &mut HeaderTable, p: &mut PageTable, o: &Outcomes, time: u32, client: u16, id: u32, expires: u32) -> Answer {
-        independent::set_expiry_sound(h, p, o, time, client, id, expires).into()
+        answer(independent::set_expiry_sound(h, p, o, time, client, id, expires))
     }
     #[no_mangle]
     #[inline(never)]
     extern "C" fn rust_scavenge_sound(h: &mut HeaderTable, p: &mut PageTable, o: &Outcomes, time: u32) -> Swept {
-        independent::scavenge_sound(h, p, o, time).into()
+        swept(independent::scavenge_sound(h, p, o, time))
     }
     #[no_mangle]
     #[inline(never)]
