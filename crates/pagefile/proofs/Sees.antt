@@ -15,7 +15,7 @@ use Rattle.paper.specs.Ids.{nullId}
 use Rattle.paper.specs.Answers.{Report, refused, report, noFacts, noCounts}
 use Rattle.paper.specs.Service.{Left}
 use Rattle.service.specs.Border.{left}
-use Rattle.pagefile.specs.Seen.{Seen, seen, seenBy}
+use Rattle.pagefile.specs.Seen.{seen, seenBy}
 
 pub sees : {A : Type 0} (f : Report → A) (a : Answer) (r : A) (l : Left) (page headers pages : List ℕ) → left a page headers pages ≡ l → r ≡ f (report a) → seen r page headers pages ≡ seenBy f l
 sees f a r l page headers pages e s = ap (λ (q : _). seen q page headers pages) s ∙ ap (seenBy f) e

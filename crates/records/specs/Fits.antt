@@ -46,7 +46,7 @@ abbrev pub slotWith : SlotHead → List ℕ → Slot
 slotWith h page = record { used = h .used; spare = h .spare; expires = h .expires; contents = page }
 
 abbrev pub keyOf : Header → HeaderKey
-keyOf h = record { used = h .used; id = h .id; expires = h .expires }
+keyOf h = record { used = h .used; expires = h .expires }
 
 -- in use under this id
 abbrev pub inUseAs : FileId → Header → Bool

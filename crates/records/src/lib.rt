@@ -248,10 +248,9 @@ pub fn zero_header(headers: &mut [u8], n: usize)
     zero(&mut headers[a..e]);
 }
 
-// What a search looks at, without unpacking the page ids.
+// What a search for a free or an expired slot looks at, without unpacking the rest.
 pub struct HeaderKey {
     pub used: bool,
-    pub id: FileId,
     pub expires: u32,
 }
 
@@ -262,7 +261,6 @@ fn unpack_key(r: &[u8]) -> HeaderKey
     let word = bits::be32(r, 0);
     HeaderKey {
         used: word / 2147483648 == 1,
-        id: FileId(word % 2147483648),
         expires: bits::be32(r, 14),
     }
 }

@@ -1,4 +1,4 @@
 pub mod Admission
 pub mod Exact
-mod Looking
+pub mod Looking
 pub mod Unique

@@ -1,10 +1,6 @@
 -- `as_answered` gives the id of a Success, and 0 with any other answer.
-use mathlib.Core.Path.{_≡_, sym, ap, _∙_}
 use borrow.Author.Needs.{needs}
-use Rattle.paper.specs.declared.Answer.{Answer}
-use Rattle.paper.specs.Answers.{Report, report}
 use Rattle.pagefile.proofs.Sees.{no-id}
-use Rattle.pagefile.specs.declared.Answered.{Answered}
 use Rattle.pagefile.proofs.as_answered.Statement.{statement}
 use Rattle.pagefile.proofs.as_answered.Tie as tie
 

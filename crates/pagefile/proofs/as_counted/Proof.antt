@@ -1,10 +1,6 @@
 -- `as_counted` gives what Scavenge counts, and zeros with any other answer.
-use mathlib.Core.Path.{_≡_, sym, ap, _∙_}
 use borrow.Author.Needs.{needs}
-use Rattle.paper.specs.declared.Answer.{Answer}
-use Rattle.paper.specs.Answers.{Report, report}
 use Rattle.pagefile.proofs.Sees.{no-counts}
-use Rattle.pagefile.specs.declared.Counted.{Counted}
 use Rattle.pagefile.proofs.as_counted.Statement.{statement}
 use Rattle.pagefile.proofs.as_counted.Tie as tie
 

@@ -1,10 +1,6 @@
 -- `as_told` gives what Info tells, and zeros with any other answer.
-use mathlib.Core.Path.{_≡_, sym, ap, _∙_}
 use borrow.Author.Needs.{needs}
-use Rattle.paper.specs.declared.Answer.{Answer}
-use Rattle.paper.specs.Answers.{Report, report}
 use Rattle.pagefile.proofs.Sees.{no-facts}
-use Rattle.pagefile.specs.declared.Told.{Told}
 use Rattle.pagefile.proofs.as_told.Statement.{statement}
 use Rattle.pagefile.proofs.as_told.Tie as tie
 

@@ -1,9 +1,9 @@
--- `unpack_key` reads three fields of the record; in use and id share the first word.
+-- `unpack_key` reads two fields of the record; in use is the first bit of its first word.
 use mathlib.Core.Path.{ap, _∙_}
 use native.Mathlib.Omega.{arith}
 use denote.Ref.{now}
 use Rattle.records.specs.Fits.{keyOf}
-use Rattle.records.proofs.Read.{header-fields, word-used, word-number}
+use Rattle.records.proofs.Read.{header-fields, word-used}
 use borrow.Author.Needs.{needs}
 use Rattle.records.proofs.unpack_key.Statement.{statement}
 use Rattle.records.proofs.unpack_key.Tie as tie
@@ -21,7 +21,6 @@ returns c =
     let word = c .before .be32 in
     (λ i. record {
       used = word-used (word .result) r (omega arith) (word .ensures) i;
-      id = record { 0 = word-number (word .result) r (omega arith) (word .ensures) i };
       expires = c .be322 .ensures i;
     })
     ∙ ap keyOf (header-fields r (s .pre))
