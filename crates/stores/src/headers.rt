@@ -129,14 +129,14 @@ pub fn create_header(headers: &mut [u8], outcome: u8, time: u32, h: Header) -> S
 }
 
 // Step: zeros over the slot.
-pub fn destroy_header(headers: &mut [u8], outcome: u8, n: usize) -> Step
-    requires { ⌜ (length (now headers) ≡ headersLength) × (1 ≤ n) × (n ≤ headerSlots) ⌝ }
-    ensures { λ r. ⌜ done r (hsFrom (now (headers .exit))) ≡ attempt outcome (destroyHeader n) (hsFrom (now (headers .entry))) ⌝ }
+pub fn destroy_header(headers: &mut [u8], outcome: u8, slot: usize) -> Step
+    requires { ⌜ (length (now headers) ≡ headersLength) × (1 ≤ slot) × (slot ≤ headerSlots) ⌝ }
+    ensures { λ r. ⌜ done r (hsFrom (now (headers .exit))) ≡ attempt outcome (destroyHeader slot) (hsFrom (now (headers .entry))) ⌝ }
 {
     match outcome {
         0 => {
-            records::zero_header(headers, n);
-            Step::Gone(n as u32)
+            records::zero_header(headers, slot);
+            Step::Gone(slot as u32)
         }
         1 => Step::Refused(9),
         _ => Step::Cut,

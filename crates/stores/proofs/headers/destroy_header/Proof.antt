@@ -1,4 +1,4 @@
--- `destroy_header` writes zeros over slot n, where its outcome lets it.
+-- `destroy_header` writes zeros over the slot, where its outcome lets it.
 use Rattle.stores.proofs.Outcomes.{goes, outcomes}
 use Rattle.stores.proofs.HeaderSlots.{destroyed}
 use borrow.Author.Needs.{needs}
