@@ -20,7 +20,7 @@ contents-requires c κs =
 copy-requires : tie.Need-copy-requires
 copy-requires c κs =
     let s = c .before .before .before .before .before .before in
-    omega (arith, ap length (c .before .contents .ensures), length-contents (s .pre .0) (s .args .id .0) (s .pre .1 .0) (s .pre .1 .1))
+    omega (arith, ap length (c .before .contents .ensures) ∙ length-contents (s .pre .0) _ (omega arith) (omega arith))
 
 cast-t13 : tie.Need-cast-t13
 cast-t13 c = search needs
