@@ -4,9 +4,9 @@
 
 mod exported;
 
-use crate::request::{Kind, Reply, Request};
+use crate::request::{Reply, Request};
 use crate::tables::Buffers;
-use linked::{border, library, Answer, Facts, Swept};
+use linked::{border, library, Answer, Facts, Kind, Swept};
 
 /// Whose code answers.
 #[derive(Clone, Copy, Debug, PartialEq, Eq)]

@@ -2,7 +2,7 @@
 
 use crate::boundary::{Implementation, Pass};
 use crate::calls::{Cell, CELL_DONE};
-use crate::request::Kind;
+use linked::Kind;
 use std::collections::HashMap;
 use std::env;
 use std::fs;

@@ -3,8 +3,9 @@
 use crate::callgrind::Counts;
 use crate::calls::Cell;
 use crate::clock::{Times, ALL_BATCHES, CALLS};
-use crate::request::{Kind, Request};
+use crate::request::Request;
 use crate::tables::Fill;
+use linked::Kind;
 
 /// One cell with all that was measured of it.
 pub struct Measured {

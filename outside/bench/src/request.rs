@@ -1,37 +1,7 @@
 //! The requests that are measured.
 
 use crate::tables::{Fill, CLIENT, EXPIRES, NOW, PAGES};
-
-/// Which function a request calls.
-#[derive(Clone, Copy, PartialEq, Eq)]
-pub enum Kind {
-    Format,
-    Create,
-    Write,
-    Read,
-    Info,
-    Destroy,
-    SetExpiry,
-    Scavenge,
-    Look,
-}
-
-impl Kind {
-    /// What the name of its C function ends with.
-    pub fn name(self) -> &'static str {
-        match self {
-            Kind::Format => "format",
-            Kind::Create => "create",
-            Kind::Write => "write",
-            Kind::Read => "read",
-            Kind::Info => "info",
-            Kind::Destroy => "destroy",
-            Kind::SetExpiry => "set_expiry",
-            Kind::Scavenge => "scavenge",
-            Kind::Look => "look",
-        }
-    }
-}
+use linked::Kind;
 
 /// One request with its arguments; a function leaves out those that it does not have.
 #[derive(Clone, Copy)]

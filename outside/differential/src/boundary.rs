@@ -1,8 +1,8 @@
 //! Calls of the proved library's C functions: the one place with unsafe code.
 
-use crate::case::{Case, Kind, Reply};
+use crate::case::{Case, Reply};
 use crate::guarded::Guarded;
-use linked::{library, Answer, Facts, Swept};
+use linked::{library, Answer, Facts, Kind, Swept};
 
 /// Calls the library on these buffers.
 #[rustfmt::skip] // One line for each call.

@@ -1,57 +1,29 @@
 //! One call of the library: its request, its arguments and the buffers lent to it.
 
 use independent::{HEADERS_LEN, OUTCOMES_LEN, PAGES_LEN, PAGE_LEN};
+use linked::Kind;
 
-/// The requests.
-#[derive(Clone, Copy, Debug, PartialEq, Eq)]
-pub enum Kind {
-    Format,
-    Create,
-    Write,
-    Read,
-    Info,
-    Destroy,
-    SetExpiry,
-    Scavenge,
-    Look,
+/// The answer numbers that the request can give; Look's are those of Read on an all-zero list.
+pub fn answers(kind: Kind) -> &'static [u8] {
+    match kind {
+        Kind::Format => &[0, 1],
+        Kind::Create => &[0, 1, 2, 3, 7, 8, 9, 10],
+        Kind::Write => &[0, 1, 2, 3, 4, 5, 7, 8, 9, 10],
+        Kind::Read => &[0, 1, 2, 3, 4, 6, 9, 10],
+        Kind::Info => &[0, 1, 2, 3, 4, 9, 10],
+        Kind::Destroy => &[0, 1, 2, 3, 4, 5, 9, 10],
+        Kind::SetExpiry => &[0, 1, 2, 3, 4, 5, 8, 9, 10],
+        Kind::Scavenge => &[0, 1, 2, 3, 9, 10],
+        Kind::Look => &[0, 1, 2, 3, 4, 6],
+    }
 }
 
-impl Kind {
-    /// All requests, each in the place of its number.
-    pub const ALL: [Kind; 9] = [
-        Kind::Format,
-        Kind::Create,
-        Kind::Write,
-        Kind::Read,
-        Kind::Info,
-        Kind::Destroy,
-        Kind::SetExpiry,
-        Kind::Scavenge,
-        Kind::Look,
-    ];
-
-    /// The answer numbers that the request can give; Look's are those of Read on an all-zero list.
-    pub fn answers(self) -> &'static [u8] {
-        match self {
-            Kind::Format => &[0, 1],
-            Kind::Create => &[0, 1, 2, 3, 7, 8, 9, 10],
-            Kind::Write => &[0, 1, 2, 3, 4, 5, 7, 8, 9, 10],
-            Kind::Read => &[0, 1, 2, 3, 4, 6, 9, 10],
-            Kind::Info => &[0, 1, 2, 3, 4, 9, 10],
-            Kind::Destroy => &[0, 1, 2, 3, 4, 5, 9, 10],
-            Kind::SetExpiry => &[0, 1, 2, 3, 4, 5, 8, 9, 10],
-            Kind::Scavenge => &[0, 1, 2, 3, 9, 10],
-            Kind::Look => &[0, 1, 2, 3, 4, 6],
-        }
-    }
-
-    /// The buffers that the request is lent.
-    pub fn buffers(self) -> &'static [usize] {
-        match self {
-            Kind::Format | Kind::Look => &[HEADERS, PAGES],
-            Kind::Create | Kind::Write | Kind::Read => &[HEADERS, PAGES, OUTCOMES, PAGE],
-            _ => &[HEADERS, PAGES, OUTCOMES],
-        }
+/// The buffers that the request is lent.
+pub fn buffers(kind: Kind) -> &'static [usize] {
+    match kind {
+        Kind::Format | Kind::Look => &[HEADERS, PAGES],
+        Kind::Create | Kind::Write | Kind::Read => &[HEADERS, PAGES, OUTCOMES, PAGE],
+        _ => &[HEADERS, PAGES, OUTCOMES],
     }
 }
 

@@ -1,9 +1,10 @@
 //! Makes one call on both implementations and compares all that they leave.
 
 use crate::boundary;
-use crate::case::{Case, Kind, Reply, BUFFER_NAMES, HEADERS, PAGES};
+use crate::case::{Case, Reply, BUFFER_NAMES, HEADERS, PAGES};
 use crate::guarded::{Guarded, GUARD_LEN};
 use independent::{OUTCOMES_LEN, PAGE_LEN};
+use linked::Kind;
 
 /// The buffers that both implementations work on.
 pub struct Bench {

@@ -1,11 +1,12 @@
 //! The calls to make: rounds of stages, each with its own kind of tables and arguments.
 
-use crate::case::{Case, Kind, Lent, HEADERS, LENGTHS, OUTCOMES, PAGE, PAGES};
+use crate::case::{self, Case, Lent, HEADERS, LENGTHS, OUTCOMES, PAGE, PAGES};
 use crate::damage::{damaged, DAMAGES};
 use crate::draft::{some_clock, Draft, SHAPES};
 use crate::layout;
 use crate::random::Random;
 use independent::{sound, FILE_PAGES, HEADER_SLOTS, OUTCOMES_LEN};
+use linked::Kind;
 
 /// What a stage tries.
 #[derive(Clone, Copy)]
@@ -179,7 +180,7 @@ impl Generator {
         }
         let kind = Kind::ALL[self.lengths_tried % Kind::ALL.len()];
         self.prepare(kind);
-        let buffers = kind.buffers();
+        let buffers = case::buffers(kind);
         let tried = self.lengths_tried / Kind::ALL.len();
         self.lengths_tried += 1;
         self.lend_wrongly(buffers[tried % buffers.len()], tried / buffers.len());
@@ -213,7 +214,7 @@ impl Generator {
             6 => self.resize(buffer, longer),
             7 => self.case.lent.swap(buffer, buffer ^ 1),
             _ => {
-                for &buffer in self.case.kind.buffers() {
+                for &buffer in case::buffers(self.case.kind) {
                     self.case.lent[buffer] = Lent::null();
                 }
             }

@@ -1,6 +1,7 @@
 //! How often each request gave each answer.
 
-use crate::case::Kind;
+use crate::case::answers;
+use linked::Kind;
 use std::fmt;
 
 /// A run of at least this many requests has to meet every answer.
@@ -19,7 +20,7 @@ impl Tally {
     /// The answers that a request can give and that were never met.
     pub fn missing(&self) -> Vec<(Kind, u8)> {
         let all = Kind::ALL.into_iter();
-        all.flat_map(|kind| kind.answers().iter().map(move |&number| (kind, number)))
+        all.flat_map(|kind| answers(kind).iter().map(move |&number| (kind, number)))
             .filter(|&(kind, number)| self.0[kind as usize][usize::from(number)] == 0)
             .collect()
     }
@@ -36,7 +37,7 @@ impl fmt::Display for Tally {
             let name = format!("{kind:?}");
             write!(out, "\n{name:<10}{:>9}", counts.iter().sum::<u64>())?;
             for (number, count) in (0u8..).zip(counts) {
-                match kind.answers().contains(&number) {
+                match answers(kind).contains(&number) {
                     true => write!(out, "{count:>9}")?,
                     false => write!(out, "{:>9}", "-")?,
                 }

@@ -3,7 +3,8 @@
 //! A line for each number and buffer; under a buffer, a line for each run of bytes that are not
 //! zero: where it begins and its bytes in hex, or one byte and how often it stands there.
 
-use crate::case::{Case, Kind, Lent, BUFFER_NAMES};
+use crate::case::{Case, Lent, BUFFER_NAMES};
+use linked::Kind;
 use std::fmt::Write;
 
 /// From this many equal bytes on, they are written as one byte with a count.

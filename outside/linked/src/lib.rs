@@ -2,6 +2,51 @@
 
 #![deny(missing_docs)]
 
+/// The C functions by name.
+#[allow(missing_docs)] // The functions are the header's.
+#[derive(Clone, Copy, Debug, PartialEq, Eq)]
+pub enum Kind {
+    Format,
+    Create,
+    Write,
+    Read,
+    Info,
+    Destroy,
+    SetExpiry,
+    Scavenge,
+    Look,
+}
+
+impl Kind {
+    /// All functions, each in the place of its number.
+    pub const ALL: [Kind; 9] = [
+        Kind::Format,
+        Kind::Create,
+        Kind::Write,
+        Kind::Read,
+        Kind::Info,
+        Kind::Destroy,
+        Kind::SetExpiry,
+        Kind::Scavenge,
+        Kind::Look,
+    ];
+
+    /// What the name of the C function ends with.
+    pub fn name(self) -> &'static str {
+        match self {
+            Kind::Format => "format",
+            Kind::Create => "create",
+            Kind::Write => "write",
+            Kind::Read => "read",
+            Kind::Info => "info",
+            Kind::Destroy => "destroy",
+            Kind::SetExpiry => "set_expiry",
+            Kind::Scavenge => "scavenge",
+            Kind::Look => "look",
+        }
+    }
+}
+
 /// `pagefile_answer` of the C header.
 #[allow(missing_docs)] // The fields are the header's.
 #[repr(C)]
