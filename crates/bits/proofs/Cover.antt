@@ -9,8 +9,8 @@ use lib.Seq.{length-take-le, get_or-drop}
 use lib.Pow as P
 use lib.Pow.{pow_pos, shr-shr, high, low, mod-mod-pow}
 use Rattle.bits.specs.Field.{join, eights, value, front, field, Bytes}
-use Rattle.bits.proofs.Numbers.{join-acc}
-use Rattle.bits.proofs.Layouts.{total-eights, bytes-within, value-lt}
+use Rattle.bits.proofs.Numbers.{join_acc}
+use Rattle.bits.proofs.Layouts.{total-eights, bytes_within, value_lt}
 
 append-join : (acc : ℕ) (p q : List ℕ) → join acc (eights (length (p ++ q))) (p ++ q) ≡ join (join acc (eights (length p)) p) (eights (length q)) q
 append-join acc [] q = refl
@@ -19,7 +19,7 @@ append-join acc (x ∷ p) q = append-join (acc * 2 ^ 8 + x) p q
 pub value-append : (p q : List ℕ) → Bytes q → value (p ++ q) ≡ value p * 2 ^ (8 * length q) + value q
 unfolding value
 value-append p q b =
-    append-join 0 p q ∙ join-acc (value p) (bytes-within q b)
+    append-join 0 p q ∙ join_acc (value p) (bytes_within q b)
     ∙ ap (λ (k : ℕ). value p * 2 ^ k + value q) (total-eights (length q))
 
 pub field-take : (o w : ℕ) (p q : List ℕ) → Bytes q → o + w ≤ 8 * length p → field o w (p ++ q) ≡ field o w p
@@ -30,7 +30,7 @@ field-take o w p q b h =
     ap (λ (k : ℕ). value (p ++ q) / 2 ^ k % 2 ^ w) e
     ∙ ap (λ (k : ℕ). k % 2 ^ w) (sym (shr-shr (value (p ++ q)) (8 * length q) n))
     ∙ ap (λ (k : ℕ). k / 2 ^ n % 2 ^ w)
-    (ap (λ (k : ℕ). k / 2 ^ (8 * length q)) (value-append p q b) ∙ high (value p) (8 * length q) (value-lt q b))
+    (ap (λ (k : ℕ). k / 2 ^ (8 * length q)) (value-append p q b) ∙ high (value p) (8 * length q) (value_lt q b))
 
 pub field-drop : (o w : ℕ) (p q : List ℕ) → Bytes q → o + w ≤ 8 * length q → field (8 * length p + o) w (p ++ q) ≡ field o w q
 unfolding field front
@@ -42,18 +42,18 @@ field-drop o w p q b h =
     let m : v % 2 ^ (w + t) ≡ value q % 2 ^ (w + t) =
     sym (mod-mod-pow v o (w + t)) ∙ ap (λ (k : ℕ). v % 2 ^ k % 2 ^ (w + t)) j
     ∙ ap (λ (k : ℕ). k % 2 ^ (w + t))
-    (ap (λ (k : ℕ). k % 2 ^ (8 * length q)) (value-append p q b) ∙ low (value p) (8 * length q) (value-lt q b)) in
+    (ap (λ (k : ℕ). k % 2 ^ (8 * length q)) (value-append p q b) ∙ low (value p) (8 * length q) (value_lt q b)) in
     ap (λ (k : ℕ). v / 2 ^ k % 2 ^ w) e
     ∙ sym (P.field v w t) ∙ ap (λ (k : ℕ). k / 2 ^ t) m ∙ P.field (value q) w t
 
-pub bytes_take : (k : ℕ) (xs : List ℕ) → Bytes xs → Bytes (take k xs)
-bytes_take zero xs b i = pow_pos 8
-bytes_take (suc k) [] b i = pow_pos 8
-bytes_take (suc k) (x ∷ xs) b zero = b 0
-bytes_take (suc k) (x ∷ xs) b (suc i) = bytes_take k xs (λ j. b (suc j)) i
+pub bytes-take : (k : ℕ) (xs : List ℕ) → Bytes xs → Bytes (take k xs)
+bytes-take zero xs b i = pow_pos 8
+bytes-take (suc k) [] b i = pow_pos 8
+bytes-take (suc k) (x ∷ xs) b zero = b 0
+bytes-take (suc k) (x ∷ xs) b (suc i) = bytes-take k xs (λ j. b (suc j)) i
 
-pub bytes_drop : (a : ℕ) (xs : List ℕ) → Bytes xs → Bytes (drop a xs)
-bytes_drop a xs b i = subst (λ (n : ℕ). n < 2 ^ 8) (sym (get_or-drop a xs i 0)) (b (a + i))
+pub bytes-drop : (a : ℕ) (xs : List ℕ) → Bytes xs → Bytes (drop a xs)
+bytes-drop a xs b i = subst (λ (n : ℕ). n < 2 ^ 8) (sym (get_or-drop a xs i 0)) (b (a + i))
 
 pub bytes-append : (xs ys : List ℕ) → Bytes xs → Bytes ys → Bytes (xs ++ ys)
 bytes-append [] ys bx by i = by i
@@ -68,9 +68,9 @@ window a k o' o w xs b h e f =
     let lk : length (take k (drop a xs)) ≡ k = length-take-le k (drop a xs) (omega arith) in
     let eo : o' ≡ 8 * length (take a xs) + o = omega arith in
     ap₂ (λ (n : ℕ) (l : List ℕ). field n w l) eo (sym (take-append-drop a xs))
-    ∙ field-drop o w (take a xs) (drop a xs) (bytes_drop a xs b) (omega arith)
+    ∙ field-drop o w (take a xs) (drop a xs) (bytes-drop a xs b) (omega arith)
     ∙ ap (λ (l : List ℕ). field o w l) (sym (take-append-drop k (drop a xs)))
-    ∙ field-take o w (take k (drop a xs)) (drop k (drop a xs)) (bytes_drop k (drop a xs) (bytes_drop a xs b)) (omega arith)
+    ∙ field-take o w (take k (drop a xs)) (drop k (drop a xs)) (bytes-drop k (drop a xs) (bytes-drop a xs b)) (omega arith)
 
 -- Bytes that agree on the k from byte a on have the same fields there.
 pub covered : (a k o w : ℕ) (xs ys : List ℕ) → Bytes xs → Bytes ys → a + k ≤ length xs → a + k ≤ length ys → take k (drop a xs) ≡ take k (drop a ys) → o + w ≤ 8 * k

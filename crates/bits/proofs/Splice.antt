@@ -10,28 +10,28 @@ use lib.ListN.{length, take, drop, set, length-append, length-take, length-drop,
 use lib.Seq.{length-take-le, take_at, drop-append-add, drop-drop, sets, sets-eq, paste, take-length}
 use Rattle.bits.specs.Field.{total, join, be, value, pack, Within, splice}
 use Rattle.bits.specs.Field.Within.{none, one}
-use Rattle.bits.proofs.Numbers.{join-acc, join-append, total-append}
-use Rattle.bits.proofs.Within.{within-append}
-use Rattle.bits.proofs.Layouts.{value_same, value-pack, pack-bytes, length-pack}
+use Rattle.bits.proofs.Numbers.{join_acc, join-append, total-append}
+use Rattle.bits.proofs.Within.{within_append}
+use Rattle.bits.proofs.Layouts.{value_same, value_pack, pack_bytes, length_pack}
 use Rattle.bits.proofs.Cover.{value-append, bytes-append}
 
 module _ (at : ℕ) (ys xs : List ℕ) (fits : at + length ys ≤ length xs) where
-  pub length-splice : length (splice at ys xs) ≡ length xs
+  pub length_splice : length (splice at ys xs) ≡ length xs
   unfolding splice
-  length-splice = simp (length-append, length-take, length-drop) (omega arith)
+  length_splice = simp (length-append, length-take, length-drop) (omega arith)
 
-  pub sets-splice : sets xs at ys ≡ splice at ys xs
+  pub sets_splice : sets xs at ys ≡ splice at ys xs
   unfolding splice
-  sets-splice = sets-eq ys xs at fits ∙ append_assoc (take at xs) ys (drop (at + length ys) xs)
+  sets_splice = sets-eq ys xs at fits ∙ append_assoc (take at xs) ys (drop (at + length ys) xs)
 
-  pub paste-splice : paste xs at ys (length ys) ≡ splice at ys xs
+  pub paste_splice : paste xs at ys (length ys) ≡ splice at ys xs
   unfolding splice
-  paste-splice = rw take-length (append_assoc (take at xs) ys (drop (at + length ys) xs))
+  paste_splice = rw take-length (append_assoc (take at xs) ys (drop (at + length ys) xs))
 
 -- what stands after it already
-pub splice-more : (at k : ℕ) (ys xs : List ℕ) → at + length ys + k ≤ length xs → splice at (ys ++ take k (drop (at + length ys) xs)) xs ≡ splice at ys xs
+pub splice_more : (at k : ℕ) (ys xs : List ℕ) → at + length ys + k ≤ length xs → splice at (ys ++ take k (drop (at + length ys) xs)) xs ≡ splice at ys xs
 unfolding splice
-splice-more at k ys xs h =
+splice_more at k ys xs h =
     let q = drop (at + length ys) xs in
     let l : length (take k q) ≡ k = length-take-le k q (omega (arith, length-drop (at + length ys) xs)) in
     let e : at + length (ys ++ take k q) ≡ at + length ys + k = omega (arith, length-append ys (take k q)) in
@@ -45,17 +45,17 @@ unfolding splice
 splice_all ys xs e = ap (λ (l : List ℕ). ys ++ l) (drop_of_length-le xs {i = 0 + length ys} (omega arith)) ∙ append-nil ys
 
 -- the form in which a part that was lent comes back
-pub splice-part : (at k : ℕ) (ys xs : List ℕ) → length ys ≡ k → take at xs ++ (ys ++ drop k (drop at xs)) ≡ splice at ys xs
+pub splice_part : (at k : ℕ) (ys xs : List ℕ) → length ys ≡ k → take at xs ++ (ys ++ drop k (drop at xs)) ≡ splice at ys xs
 unfolding splice
-splice-part at k ys xs e =
+splice_part at k ys xs e =
     ap (λ (l : List ℕ). take at xs ++ (ys ++ l)) (drop-drop k at xs ∙ ap (λ (n : ℕ). drop (at + n) xs) (sym e))
 
 pub put_2 : (xs : List ℕ) (at a b : ℕ) → at + 2 ≤ length xs → set (set xs at a) (at + 1) b ≡ splice at (a ∷ b ∷ []) xs
-put_2 xs at a b h = simp towards_suc (sets-splice at (a ∷ b ∷ []) xs h)
+put_2 xs at a b h = simp towards_suc (sets_splice at (a ∷ b ∷ []) xs h)
 
 pub put_4 : (xs : List ℕ) (at a b c d : ℕ) → at + 4 ≤ length xs
     → set (set (set (set xs at a) (at + 1) b) (at + 2) c) (at + 3) d ≡ splice at (a ∷ b ∷ c ∷ d ∷ []) xs
-put_4 xs at a b c d h = simp towards_suc (sets-splice at (a ∷ b ∷ c ∷ d ∷ []) xs h)
+put_4 xs at a b c d h = simp towards_suc (sets_splice at (a ∷ b ∷ c ∷ d ∷ []) xs h)
 
 -- one after the other
 pub splice-splice : (at n : ℕ) (cs bs xs : List ℕ) → at + length cs + length bs ≤ length xs → n ≡ at + length cs
@@ -78,21 +78,21 @@ splice-splice at n cs bs xs h e =
 pub pack-append : (ws ws' : List ℕ) (k k' : ℕ) {vs vs' : List ℕ} → total ws ≡ 8 * k → total ws' ≡ 8 * k' → Within ws vs → Within ws' vs'
     → pack (ws ++ ws') (vs ++ vs') ≡ pack ws vs ++ pack ws' vs'
 pack-append ws ws' k k' {vs} {vs'} t t' r r' =
-    let l : length (pack ws vs) ≡ k = length-pack ws k t vs in
-    let l' : length (pack ws' vs') ≡ k' = length-pack ws' k' t' vs' in
+    let l : length (pack ws vs) ≡ k = length_pack ws k t vs in
+    let l' : length (pack ws' vs') ≡ k' = length_pack ws' k' t' vs' in
     let t+ : total (ws ++ ws') ≡ 8 * (k + k') = omega (arith, total-append ws ws') in
-    let l+ : length (pack (ws ++ ws') (vs ++ vs')) ≡ k + k' = length-pack (ws ++ ws') (k + k') t+ (vs ++ vs') in
+    let l+ : length (pack (ws ++ ws') (vs ++ vs')) ≡ k + k' = length_pack (ws ++ ws') (k + k') t+ (vs ++ vs') in
     let e : 8 * length (pack ws' vs') ≡ total ws' = omega arith in
     value_same (pack (ws ++ ws') (vs ++ vs')) (pack ws vs ++ pack ws' vs')
-    (pack-bytes (ws ++ ws') (vs ++ vs'))
-    (bytes-append (pack ws vs) (pack ws' vs') (pack-bytes ws vs) (pack-bytes ws' vs'))
+    (pack_bytes (ws ++ ws') (vs ++ vs'))
+    (bytes-append (pack ws vs) (pack ws' vs') (pack_bytes ws vs) (pack_bytes ws' vs'))
     (omega (arith, length-append (pack ws vs) (pack ws' vs')))
-    (value-pack (ws ++ ws') (k + k') t+ (vs ++ vs') (within-append r r')
-    ∙ join-append 0 ws' vs' r ∙ join-acc (join 0 ws vs) r'
+    (value_pack (ws ++ ws') (k + k') t+ (vs ++ vs') (within_append r r')
+    ∙ join-append 0 ws' vs' r ∙ join_acc (join 0 ws vs) r'
     ∙ sym
-    (value-append (pack ws vs) (pack ws' vs') (pack-bytes ws' vs')
+    (value-append (pack ws vs) (pack ws' vs') (pack_bytes ws' vs')
     ∙ ap (λ (m : ℕ). value (pack ws vs) * 2 ^ m + value (pack ws' vs')) e
-    ∙ ap₂ (λ (m n : ℕ). m * 2 ^ total ws' + n) (value-pack ws k t vs r) (value-pack ws' k' t' vs' r')))
+    ∙ ap₂ (λ (m n : ℕ). m * 2 ^ total ws' + n) (value_pack ws k t vs r) (value_pack ws' k' t' vs' r')))
 
 pub pack_one : (w k n : ℕ) → w ≡ 8 * k → pack (w ∷ []) (n ∷ []) ≡ be k n
 unfolding pack

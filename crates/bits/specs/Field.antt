@@ -63,5 +63,5 @@ abbrev pub nines : List ℕ
 nines = replicate 16 9
 
 -- eight of them, which end at a whole byte
-abbrev pub halfNines : List ℕ
-halfNines = replicate 8 9
+abbrev pub half_nines : List ℕ
+half_nines = replicate 8 9

@@ -1,6 +1,6 @@
 // Numbers read from bytes and written to them, most significant bit first.
 ghost use Rattle.std.specs.Prelude.{◌≡◌, ◌+◌, ◌*◌, ◌-◌, ◌%◌, ◌<◌, ◌≤◌, length, get_or};
-ghost use Rattle.bits.specs.Field.{field, pack, splice, be, nines, halfNines, Within};
+ghost use Rattle.bits.specs.Field.{field, pack, splice, be, nines, half_nines, Within};
 
 // A call asks only for the index, where a cast asks too that the byte fits.
 fn wide32(b: u8) -> u32
@@ -62,8 +62,8 @@ pub fn put32(s: &mut [u8], at: usize, v: u32)
 
 // Byte j of eight nine-bit numbers, in nine bytes, holds the last j bits of the number before it ..
 fn ends(ids: &[u16], j: usize) -> u16
-    requires { (j < 9) × Within halfNines ids.now }
-    ensures { result ≡ field (8 * j) j (pack halfNines ids.now) }
+    requires { (j < 9) × Within half_nines ids.now }
+    ensures { result ≡ field (8 * j) j (pack half_nines ids.now) }
 {
     if j == 0 {
         return 0;
@@ -73,8 +73,8 @@ fn ends(ids: &[u16], j: usize) -> u16
 
 // .. and the first 8 - j bits of number j.
 fn begins(ids: &[u16], j: usize) -> u16
-    requires { (j < 9) × Within halfNines ids.now }
-    ensures { result ≡ field (9 * j) (8 - j) (pack halfNines ids.now) }
+    requires { (j < 9) × Within half_nines ids.now }
+    ensures { result ≡ field (9 * j) (8 - j) (pack half_nines ids.now) }
 {
     if j == 8 {
         return 0;
@@ -83,16 +83,16 @@ fn begins(ids: &[u16], j: usize) -> u16
 }
 
 fn nines_byte(ids: &[u16], j: usize) -> u8
-    requires { (j < 9) × Within halfNines ids.now }
-    ensures { result ≡ get_or (pack halfNines ids.now) j 0 }
+    requires { (j < 9) × Within half_nines ids.now }
+    ensures { result ≡ get_or (pack half_nines ids.now) j 0 }
 {
     ((ends(ids, j) << (8 - j)) + begins(ids, j)) as u8
 }
 
 // Each of the nine bytes is written once; none is read back. Nine turns are few enough for the compiler to unroll; eighteen are not.
 fn put_half(s: &mut [u8], at: usize, ids: &[u16])
-    requires { (at + 9 ≤ length s.old) × Within halfNines ids.now }
-    ensures { s.new ≡ splice at (pack halfNines ids.now) s.old }
+    requires { (at + 9 ≤ length s.old) × Within half_nines ids.now }
+    ensures { s.new ≡ splice at (pack half_nines ids.now) s.old }
 {
     for j in 0..9 {
         s[at + j] = nines_byte(ids, j);

@@ -16,41 +16,41 @@ use Rattle.service.proofs.set_expiry.Reads as set-expiry
 use Rattle.service.proofs.scavenge.Reads as scavenge
 use Rattle.history.specs.History.{formats, asks, Given, Allowed}
 
-pub format-allowed : (κs : Lfts 2) (a r s : _) → format.Learnt κs a r s
+pub format_allowed : (κs : Lfts 2) (a r s : _) → format.Learnt κs a r s
     → Allowed standard a.0.now a.1.0.now (record { asked = formats; answer = r; page = []; headers = s.0.now; pages = s.1.0.now }) formats
-format-allowed κs a r s p = p
+format_allowed κs a r s p = p
 
-pub create-allowed : (κs : Lfts 4) (a r s : _) → create.Learnt κs a r s → a.1.1.1.0 < 2 ^ 32 → Given (Create a.1.1.1.1.0 a.1.1.1.1.1.0 a.1.1.1.1.1.1.0.now a.1.1.1.1.1.1.1.0)
+pub create_allowed : (κs : Lfts 4) (a r s : _) → create.Learnt κs a r s → a.1.1.1.0 < 2 ^ 32 → Given (Create a.1.1.1.1.0 a.1.1.1.1.1.0 a.1.1.1.1.1.1.0.now a.1.1.1.1.1.1.1.0)
     → Allowed standard a.0.now a.1.0.now (record { asked = asks a.1.1.1.0 a.1.1.0.now (Create a.1.1.1.1.0 a.1.1.1.1.1.0 a.1.1.1.1.1.1.0.now a.1.1.1.1.1.1.1.0); answer = r; page = a.1.1.1.1.1.1.0.now; headers = s.0.now; pages = s.1.0.now })
     (asks a.1.1.1.0 a.1.1.0.now (Create a.1.1.1.1.0 a.1.1.1.1.1.0 a.1.1.1.1.1.1.0.now a.1.1.1.1.1.1.1.0))
-create-allowed κs a r s p t g = (t, g, p)
+create_allowed κs a r s p t g = (t, g, p)
 
 pub write_allowed : (κs : Lfts 4) (a r s : _) → write.Learnt κs a r s → a.1.1.1.0 < 2 ^ 32 → Given (Write a.1.1.1.1.0 a.1.1.1.1.1.0 a.1.1.1.1.1.1.0 a.1.1.1.1.1.1.1.0.now)
     → Allowed standard a.0.now a.1.0.now (record { asked = asks a.1.1.1.0 a.1.1.0.now (Write a.1.1.1.1.0 a.1.1.1.1.1.0 a.1.1.1.1.1.1.0 a.1.1.1.1.1.1.1.0.now); answer = r; page = a.1.1.1.1.1.1.1.0.now; headers = s.0.now; pages = s.1.0.now })
     (asks a.1.1.1.0 a.1.1.0.now (Write a.1.1.1.1.0 a.1.1.1.1.1.0 a.1.1.1.1.1.1.0 a.1.1.1.1.1.1.1.0.now))
 write_allowed κs a r s p t g = (t, g, p)
 
-pub read-allowed : (κs : Lfts 4) (a r s : _) → read.Learnt κs a r s → a.1.1.1.0 < 2 ^ 32 → Given (Read a.1.1.1.1.0 a.1.1.1.1.1.0 a.1.1.1.1.1.1.0.now)
+pub read_allowed : (κs : Lfts 4) (a r s : _) → read.Learnt κs a r s → a.1.1.1.0 < 2 ^ 32 → Given (Read a.1.1.1.1.0 a.1.1.1.1.1.0 a.1.1.1.1.1.1.0.now)
     → Allowed standard a.0.now a.1.0.now (record { asked = asks a.1.1.1.0 a.1.1.0.now (Read a.1.1.1.1.0 a.1.1.1.1.1.0 a.1.1.1.1.1.1.0.now); answer = r; page = s.1.1.1.1.1.1.0.now; headers = s.0.now; pages = a.1.0.now })
     (asks a.1.1.1.0 a.1.1.0.now (Read a.1.1.1.1.0 a.1.1.1.1.1.0 a.1.1.1.1.1.1.0.now))
-read-allowed κs a r s p t g = (t, g, p)
+read_allowed κs a r s p t g = (t, g, p)
 
-pub info-allowed : (κs : Lfts 3) (a r s : _) → info.Learnt κs a r s → a.1.1.1.0 < 2 ^ 32 → Given (Info a.1.1.1.1.0)
+pub info_allowed : (κs : Lfts 3) (a r s : _) → info.Learnt κs a r s → a.1.1.1.0 < 2 ^ 32 → Given (Info a.1.1.1.1.0)
     → Allowed standard a.0.now a.1.0.now (record { asked = asks a.1.1.1.0 a.1.1.0.now (Info a.1.1.1.1.0); answer = r; page = []; headers = s.0.now; pages = a.1.0.now })
     (asks a.1.1.1.0 a.1.1.0.now (Info a.1.1.1.1.0))
-info-allowed κs a r s p t g = (t, g, p)
+info_allowed κs a r s p t g = (t, g, p)
 
-pub destroy-allowed : (κs : Lfts 3) (a r s : _) → destroy.Learnt κs a r s → a.1.1.1.0 < 2 ^ 32 → Given (Destroy a.1.1.1.1.0 a.1.1.1.1.1.0)
+pub destroy_allowed : (κs : Lfts 3) (a r s : _) → destroy.Learnt κs a r s → a.1.1.1.0 < 2 ^ 32 → Given (Destroy a.1.1.1.1.0 a.1.1.1.1.1.0)
     → Allowed standard a.0.now a.1.0.now (record { asked = asks a.1.1.1.0 a.1.1.0.now (Destroy a.1.1.1.1.0 a.1.1.1.1.1.0); answer = r; page = []; headers = s.0.now; pages = s.1.0.now })
     (asks a.1.1.1.0 a.1.1.0.now (Destroy a.1.1.1.1.0 a.1.1.1.1.1.0))
-destroy-allowed κs a r s p t g = (t, g, p)
+destroy_allowed κs a r s p t g = (t, g, p)
 
-pub set-expiry-allowed : (κs : Lfts 3) (a r s : _) → set-expiry.Learnt κs a r s → a.1.1.1.0 < 2 ^ 32 → Given (SetExpiry a.1.1.1.1.0 a.1.1.1.1.1.0 a.1.1.1.1.1.1.0)
+pub set_expiry_allowed : (κs : Lfts 3) (a r s : _) → set-expiry.Learnt κs a r s → a.1.1.1.0 < 2 ^ 32 → Given (SetExpiry a.1.1.1.1.0 a.1.1.1.1.1.0 a.1.1.1.1.1.1.0)
     → Allowed standard a.0.now a.1.0.now (record { asked = asks a.1.1.1.0 a.1.1.0.now (SetExpiry a.1.1.1.1.0 a.1.1.1.1.1.0 a.1.1.1.1.1.1.0); answer = r; page = []; headers = s.0.now; pages = s.1.0.now })
     (asks a.1.1.1.0 a.1.1.0.now (SetExpiry a.1.1.1.1.0 a.1.1.1.1.1.0 a.1.1.1.1.1.1.0))
-set-expiry-allowed κs a r s p t g = (t, g, p)
+set_expiry_allowed κs a r s p t g = (t, g, p)
 
-pub scavenge-allowed : (κs : Lfts 3) (a r s : _) → scavenge.Learnt κs a r s → a.1.1.1.0 < 2 ^ 32 → Given (Scavenge)
+pub scavenge_allowed : (κs : Lfts 3) (a r s : _) → scavenge.Learnt κs a r s → a.1.1.1.0 < 2 ^ 32 → Given (Scavenge)
     → Allowed standard a.0.now a.1.0.now (record { asked = asks a.1.1.1.0 a.1.1.0.now (Scavenge); answer = r; page = []; headers = s.0.now; pages = s.1.0.now })
     (asks a.1.1.1.0 a.1.1.0.now (Scavenge))
-scavenge-allowed κs a r s p t g = (t, g, p)
+scavenge_allowed κs a r s p t g = (t, g, p)

@@ -5,13 +5,13 @@ use mathlib.Core.Path.{subst}
 use mathlib.Core.Bool.{Bool, cond}
 use mathlib.Core.List.{List}
 use Rattle.paper.specs.declared.PageId.{PageId}
-use Rattle.paper.specs.Ids.{pageId}
+use Rattle.paper.specs.Ids.{page_id}
 use Rattle.paper.specs.Tables.{HS, Tables}
 use Rattle.paper.specs.Stores.{Try, gone, no}
 use Rattle.paper.specs.Steps
-use Rattle.paper.specs.Steps.{Steps, give, ask, check, step, cleanup, headerStep, onHeaders, eachPage}
+use Rattle.paper.specs.Steps.{Steps, give, ask, check, step, cleanup, header_step, on_headers, each_page}
 use Rattle.plain.proofs.Logic
-use Rattle.plain.proofs.Logic.{Does, into, gives, asks, chooses, checks, steps, cleanups, header-steps, each}
+use Rattle.plain.proofs.Logic.{Does, into, gives, asks, chooses, checks, steps, cleanups, header_steps, each}
 
 abbrev pub Keeping : {A : Type 0} → (Tables → Type 0) → Steps A → (A → Type 0) → Type 0
 Keeping P m Q = Does (λ n u t. P t) (λ u t. P t) m (λ a u t. P t × Q a)
@@ -40,26 +40,26 @@ module _ {P : Tables → Type 0} where
     d >> e = d >>= λ a q. e
 
   module _ {A : Type 0} where
-    pub keeps-give : (a : A) → Keeping P (give a) Any
-    keeps-give a = gives a (λ u t p. (p, tt))
+    pub keeps_give : (a : A) → Keeping P (give a) Any
+    keeps_give a = gives a (λ u t p. (p, tt))
 
-    pub keeps-ask : {Q : A → Type 0} (f : Tables → A) → ((t : Tables) → P t → Q (f t)) → Keeping P (ask f) Q
-    keeps-ask f v = asks f (λ u t p. (p, v t p))
+    pub keeps_ask : {Q : A → Type 0} (f : Tables → A) → ((t : Tables) → P t → Q (f t)) → Keeping P (ask f) Q
+    keeps_ask f v = asks f (λ u t p. (p, v t p))
 
-    pub keeps-either : {m k : Steps A} (c : Bool) → Keeping P m Any → Keeping P k Any → Keeping P (cond c m k) Any
-    keeps-either c d e = chooses c (λ _. d) (λ _. e)
+    pub keeps_either : {m k : Steps A} (c : Bool) → Keeping P m Any → Keeping P k Any → Keeping P (cond c m k) Any
+    keeps_either c d e = chooses c (λ _. d) (λ _. e)
 
-  pub keeps-check : (c : Bool) (a : ℕ) → Keeping P (check c a) Any
-  keeps-check c a = checks c a (λ _ u t p. (p, tt)) (λ _ u t p. p)
+  pub keeps_check : (c : Bool) (a : ℕ) → Keeping P (check c a) Any
+  keeps_check c a = checks c a (λ _ u t p. (p, tt)) (λ _ u t p. p)
 
-  pub keeps-step : {Q : ℕ → Type 0} (f : Tables → Try Tables) → ((t : Tables) → P t → Leaves P Q (f t)) → Keeping P (step f) Q
-  keeps-step {Q} f k = steps f (λ u t n t' p e. left_by (subst (Leaves P Q) e (k t p))) (λ u t p. p) (λ u t a p e. p) (λ u t p. p)
+  pub keeps_step : {Q : ℕ → Type 0} (f : Tables → Try Tables) → ((t : Tables) → P t → Leaves P Q (f t)) → Keeping P (step f) Q
+  keeps_step {Q} f k = steps f (λ u t n t' p e. left_by (subst (Leaves P Q) e (k t p))) (λ u t p. p) (λ u t a p e. p) (λ u t p. p)
 
-  pub keeps-cleanup : (f : Tables → Try Tables) → ((t : Tables) → P t → Leaves P Any (f t)) → Keeping P (cleanup f) Any
-  keeps-cleanup f k = cleanups f (λ u t n t' p e. left_by (subst (Leaves P Any) e (k t p))) (λ u t p. p) (λ u t p. (p, tt))
+  pub keeps_cleanup : (f : Tables → Try Tables) → ((t : Tables) → P t → Leaves P Any (f t)) → Keeping P (cleanup f) Any
+  keeps_cleanup f k = cleanups f (λ u t n t' p e. left_by (subst (Leaves P Any) e (k t p))) (λ u t p. p) (λ u t p. (p, tt))
 
-  pub keeps-header : {Q : ℕ → Type 0} (f : HS → Try HS) → Keeping P (step (onHeaders f)) Q → Keeping P (headerStep f) Q
-  keeps-header f d = header-steps f d
+  pub keeps_header : {Q : ℕ → Type 0} (f : HS → Try HS) → Keeping P (step (on_headers f)) Q → Keeping P (header_step f) Q
+  keeps_header f d = header_steps f d
 
-  pub keeps-each : (f : PageId → Steps ℕ) → ((p : PageId) → Keeping P (f p) Any) → (ps : List PageId) → Keeping P (eachPage f ps) Any
-  keeps-each f k ps = into (λ n u t p. (p, tt)) (each (λ _ u t. P t) f (λ i _. into (λ n u t p. p.0) (k (pageId (suc i)))) (λ _ u t p. p) ps)
+  pub keeps_each : (f : PageId → Steps ℕ) → ((p : PageId) → Keeping P (f p) Any) → (ps : List PageId) → Keeping P (each_page f ps) Any
+  keeps_each f k ps = into (λ n u t p. (p, tt)) (each (λ _ u t. P t) f (λ i _. into (λ n u t p. p.0) (k (page_id (suc i)))) (λ _ u t p. p) ps)

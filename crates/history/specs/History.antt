@@ -6,9 +6,9 @@ use Rattle.paper.specs.Tables.{Bank, Tables}
 use Rattle.paper.specs.Sound.{sound}
 use Rattle.paper.specs.Answers.{Request, Create, Write, Read, Info, Destroy, SetExpiry, Scavenge, report}
 use Rattle.paper.specs.Requests.{serve}
-use Rattle.paper.specs.Bytes.{headersLength, pagesLength, tablesFrom}
-use Rattle.paper.specs.Service.{serveBytes, format}
-use Rattle.paper.specs.Plain.{Plain, freshMachine, Told, plain}
+use Rattle.paper.specs.Bytes.{headers_length, pages_length, tables_from}
+use Rattle.paper.specs.Service.{serve_bytes, format}
+use Rattle.paper.specs.Plain.{Plain, fresh_machine, Told, plain}
 use Rattle.paper.specs.View.{view, beside}
 use Rattle.service.specs.Border.{left}
 
@@ -39,14 +39,14 @@ Given Scavenge = Unit {0}
 abbrev pub Allowed : Bank → List ℕ → List ℕ → Seen → Asked → Type 0
 Allowed b headers pages s formats = left s.answer [] s.headers s.pages ≡ format b headers pages
 Allowed b headers pages s (asks now os q) =
-    (now < 2 ^ 32) × Given q × (left s.answer s.page s.headers s.pages ≡ serveBytes b now os q headers pages)
+    (now < 2 ^ 32) × Given q × (left s.answer s.page s.headers s.pages ≡ serve_bytes b now os q headers pages)
 
 -- two tables of the bank's lengths, of bytes
 pub record Buffers (b : Bank) (headers pages : List ℕ) : Type 0 where
-  pub header-bytes : Bytes headers
-  pub header-length : length headers ≡ headersLength
-  pub page-bytes : Bytes pages
-  pub page-length : length pages ≡ pagesLength b
+  pub header_table_bytes : Bytes headers
+  pub header_table_len : length headers ≡ headers_length
+  pub page_table_bytes : Bytes pages
+  pub page_table_len : length pages ≡ pages_length b
 
 -- Each answer with the bytes that it left is one that its border's contract allows; a lent buffer stays bytes and keeps its length.
 pub data History (b : Bank) : List ℕ → List ℕ → List Seen → Type 0 where
@@ -55,18 +55,18 @@ pub data History (b : Bank) : List ℕ → List ℕ → List Seen → Type 0 whe
       → History b s.headers s.pages ss → History b headers pages (s ∷ ss)
 
 -- the tables that a run leaves
-abbrev pub lastTables : Bank → List ℕ → List ℕ → List Seen → Tables
-lastTables b headers pages [] = tablesFrom b headers pages
-lastTables b headers pages (s ∷ ss) = lastTables b s.headers s.pages ss
+abbrev pub last_tables : Bank → List ℕ → List ℕ → List Seen → Tables
+last_tables b headers pages [] = tables_from b headers pages
+last_tables b headers pages (s ∷ ss) = last_tables b s.headers s.pages ss
 
 -- the plain machine after one call: fresh after Format; otherwise beside the service's reply
-abbrev pub machineThen : Bank → List ℕ → List ℕ → Asked → Plain → Plain
-machineThen b headers pages formats m = freshMachine
-machineThen b headers pages (asks now os q) m = beside now q (serve b now os q (tablesFrom b headers pages)) m
+abbrev pub machine_then : Bank → List ℕ → List ℕ → Asked → Plain → Plain
+machine_then b headers pages formats m = fresh_machine
+machine_then b headers pages (asks now os q) m = beside now q (serve b now os q (tables_from b headers pages)) m
 
-abbrev pub machineAfter : Bank → List ℕ → List ℕ → List Seen → Plain → Plain
-machineAfter b headers pages [] m = m
-machineAfter b headers pages (s ∷ ss) m = machineAfter b s.headers s.pages ss (machineThen b headers pages s.asked m)
+abbrev pub machine_after : Bank → List ℕ → List ℕ → List Seen → Plain → Plain
+machine_after b headers pages [] m = m
+machine_after b headers pages (s ∷ ss) m = machine_after b s.headers s.pages ss (machine_then b headers pages s.asked m)
 
 -- a Success tells what the plain machine tells: its number, id, Info's fields and the lent page
 pub record Tells (s : Seen) (m : Told) : Type 0 where
@@ -81,10 +81,10 @@ Agreed s (asks now os q) m = (report s.answer).number ≡ 0 → Tells s (plain n
 
 abbrev pub AllAgreed : Bank → List ℕ → List ℕ → List Seen → Plain → Type 0
 AllAgreed b headers pages [] m = Unit {0}
-AllAgreed b headers pages (s ∷ ss) m = Agreed s s.asked m × AllAgreed b s.headers s.pages ss (machineThen b headers pages s.asked m)
+AllAgreed b headers pages (s ∷ ss) m = Agreed s s.asked m × AllAgreed b s.headers s.pages ss (machine_then b headers pages s.asked m)
 
 -- what demand 3 says of a run from these bytes
 pub record NothingEverLost (b : Bank) (headers pages : List ℕ) (ss : List Seen) : Type 0 where
-  pub sound : sound b (lastTables b headers pages ss) ≡ true
-  pub shown : view b (lastTables b headers pages ss) ≡ machineAfter b headers pages ss (view b (tablesFrom b headers pages))
-  pub agreed : AllAgreed b headers pages ss (view b (tablesFrom b headers pages))
+  pub sound : sound b (last_tables b headers pages ss) ≡ true
+  pub shown : view b (last_tables b headers pages ss) ≡ machine_after b headers pages ss (view b (tables_from b headers pages))
+  pub agreed : AllAgreed b headers pages ss (view b (tables_from b headers pages))

@@ -16,8 +16,8 @@ abbrev pub seen : {A : Type 0} → A → List ℕ → List ℕ → List ℕ → 
 seen a page headers pages = record { answer = a; page = page; headers = headers; pages = pages }
 
 -- what a request leaves, with its report as the struct f makes of it
-abbrev pub seenBy : {A : Type 0} → (Report → A) → Left → Seen A
-seenBy f l = seen (f l.report) l.page l.headers l.pages
+abbrev pub seen_by : {A : Type 0} → (Report → A) → Left → Seen A
+seen_by f l = seen (f l.report) l.page l.headers l.pages
 
 abbrev pub numbered : Report → ℕ
 numbered r = r.number

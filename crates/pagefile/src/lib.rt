@@ -1,10 +1,10 @@
 // The library for C and Rust: each function is the border of its request, with the answer as a struct.
 ghost use Rattle.std.specs.Prelude.{◌≡◌, []};
-ghost use Rattle.paper.specs.Ids.{fileId, pageNum};
+ghost use Rattle.paper.specs.Ids.{file_id, page_num};
 ghost use Rattle.paper.specs.Tables.{standard};
 ghost use Rattle.paper.specs.Answers.{Create, Write, Read, Info, Destroy, SetExpiry, Scavenge, report};
-ghost use Rattle.paper.specs.Service.{serveBytes, format, lookSlot};
-ghost use Rattle.pagefile.specs.Seen.{seen, seenBy, numbered, answered, told, counted};
+ghost use Rattle.paper.specs.Service.{serve_bytes, format, look_slot};
+ghost use Rattle.pagefile.specs.Seen.{seen, seen_by, numbered, answered, told, counted};
 
 use paper::{Answer, FileId, PageNum};
 
@@ -88,7 +88,7 @@ fn as_counted(a: Answer) -> Counted
 
 #[unsafe(no_mangle)]
 pub extern "C" fn pagefile_format(headers: &mut [u8], pages: &mut [u8]) -> u8
-    ensures { seen result [] headers.new pages.new ≡ seenBy numbered (format standard headers.old pages.old) }
+    ensures { seen result [] headers.new pages.new ≡ seen_by numbered (format standard headers.old pages.old) }
 {
     let a = service::format(headers, pages);
     rows::ends::number(a)
@@ -105,7 +105,7 @@ pub extern "C" fn pagefile_create(
     page: &[u8],
     expires: u32,
 ) -> Answered
-    ensures { seen result page.now headers.new pages.new ≡ seenBy answered (serveBytes standard time outcomes.now (Create client (pageNum number) page.now expires) headers.old pages.old) }
+    ensures { seen result page.now headers.new pages.new ≡ seen_by answered (serve_bytes standard time outcomes.now (Create client (page_num number) page.now expires) headers.old pages.old) }
 {
     let a = service::create(
         headers,
@@ -131,7 +131,7 @@ pub extern "C" fn pagefile_write(
     number: u8,
     page: &[u8],
 ) -> Answered
-    ensures { seen result page.now headers.new pages.new ≡ seenBy answered (serveBytes standard time outcomes.now (Write client (fileId id) (pageNum number) page.now) headers.old pages.old) }
+    ensures { seen result page.now headers.new pages.new ≡ seen_by answered (serve_bytes standard time outcomes.now (Write client (file_id id) (page_num number) page.now) headers.old pages.old) }
 {
     let a = service::write(
         headers,
@@ -156,7 +156,7 @@ pub extern "C" fn pagefile_read(
     number: u8,
     page: &mut [u8],
 ) -> Answered
-    ensures { seen result page.new headers.new pages.now ≡ seenBy answered (serveBytes standard time outcomes.now (Read (fileId id) (pageNum number) page.old) headers.old pages.now) }
+    ensures { seen result page.new headers.new pages.now ≡ seen_by answered (serve_bytes standard time outcomes.now (Read (file_id id) (page_num number) page.old) headers.old pages.now) }
 {
     let a = service::read(
         headers,
@@ -178,7 +178,7 @@ pub extern "C" fn pagefile_info(
     time: u32,
     id: u32,
 ) -> Told
-    ensures { seen result [] headers.new pages.now ≡ seenBy told (serveBytes standard time outcomes.now (Info (fileId id)) headers.old pages.now) }
+    ensures { seen result [] headers.new pages.now ≡ seen_by told (serve_bytes standard time outcomes.now (Info (file_id id)) headers.old pages.now) }
 {
     let a = service::info(headers, pages, outcomes, time, FileId(id));
     as_told(a)
@@ -193,7 +193,7 @@ pub extern "C" fn pagefile_destroy(
     client: u16,
     id: u32,
 ) -> Answered
-    ensures { seen result [] headers.new pages.new ≡ seenBy answered (serveBytes standard time outcomes.now (Destroy client (fileId id)) headers.old pages.old) }
+    ensures { seen result [] headers.new pages.new ≡ seen_by answered (serve_bytes standard time outcomes.now (Destroy client (file_id id)) headers.old pages.old) }
 {
     let a = service::destroy(headers, pages, outcomes, time, client, FileId(id));
     as_answered(a)
@@ -209,7 +209,7 @@ pub extern "C" fn pagefile_set_expiry(
     id: u32,
     expires: u32,
 ) -> Answered
-    ensures { seen result [] headers.new pages.new ≡ seenBy answered (serveBytes standard time outcomes.now (SetExpiry client (fileId id) expires) headers.old pages.old) }
+    ensures { seen result [] headers.new pages.new ≡ seen_by answered (serve_bytes standard time outcomes.now (SetExpiry client (file_id id) expires) headers.old pages.old) }
 {
     let a = service::set_expiry(headers, pages, outcomes, time, client, FileId(id), expires);
     as_answered(a)
@@ -222,7 +222,7 @@ pub extern "C" fn pagefile_scavenge(
     outcomes: &[u8],
     time: u32,
 ) -> Counted
-    ensures { seen result [] headers.new pages.new ≡ seenBy counted (serveBytes standard time outcomes.now Scavenge headers.old pages.old) }
+    ensures { seen result [] headers.new pages.new ≡ seen_by counted (serve_bytes standard time outcomes.now Scavenge headers.old pages.old) }
 {
     let a = service::scavenge(headers, pages, outcomes, time);
     as_counted(a)
@@ -231,7 +231,7 @@ pub extern "C" fn pagefile_scavenge(
 // The page's slot, 0 for the blank.
 #[unsafe(no_mangle)]
 pub extern "C" fn pagefile_look(headers: &[u8], pages: &[u8], time: u32, id: u32, number: u8) -> u16
-    ensures { result ≡ (lookSlot standard time (fileId id) (pageNum number) headers.now pages.now).0 }
+    ensures { result ≡ (look_slot standard time (file_id id) (page_num number) headers.now pages.now).0 }
 {
     let p = service::look_slot(headers, pages, time, FileId(id), PageNum(number));
     p.0

@@ -4,11 +4,11 @@ use Prim.Native.Nat.{ℕ}
 use mathlib.Core.Path.{◌≡◌, refl}
 use mathlib.Core.List.{List, [], ◌∷◌, ◌++◌, zip_with}
 use lib.ListN.{set, take, replicate}
-use Rattle.paper.specs.Ids.{fileId, pageNum}
+use Rattle.paper.specs.Ids.{file_id, page_num}
 use Rattle.paper.specs.Tables.{Bank}
 use Rattle.paper.specs.Answers.{refused}
-use Rattle.paper.specs.Service.{Left, serveBytes, format, look, lookSlot}
-use Rattle.paper.specs.Sessions.{Call, at, failing, first, runBytes, formatted, shows, pageA, createA, writeB, read_of}
+use Rattle.paper.specs.Service.{Left, serve_bytes, format, look, look_slot}
+use Rattle.paper.specs.Sessions.{Call, at, failing, first, run_bytes, formatted, shows, page_a, create_a, write_b, read_of}
 use Rattle.paper.proofs.Computing.{computing}
 
 abbrev tiny : Bank
@@ -19,15 +19,15 @@ rows cs ls = zip_with (λ (c : Call) (l : Left). shows c l.report l.page) cs ls
 
 -- session 5
 abbrev five : List Call
-five = first tiny ∷ failing 3 1 20 (writeB tiny 7 1) ∷ at 20 (read_of tiny 1 0) ∷ at 20 (read_of tiny 2 0) ∷ []
+five = first tiny ∷ failing 3 1 20 (write_b tiny 7 1) ∷ at 20 (read_of tiny 1 0) ∷ at 20 (read_of tiny 2 0) ∷ []
 
-pub five-shows : rows five (runBytes tiny five (formatted tiny)) ≡ (0 ∷ 1 ∷ []) ∷ (9 ∷ 0 ∷ []) ∷ (0 ∷ 0x41 ∷ []) ∷ (4 ∷ 0 ∷ []) ∷ []
+pub five_shows : rows five (run_bytes tiny five (formatted tiny)) ≡ (0 ∷ 1 ∷ []) ∷ (9 ∷ 0 ∷ []) ∷ (0 ∷ 0x41 ∷ []) ∷ (4 ∷ 0 ∷ []) ∷ []
 unfolding computing
-five-shows = refl
+five_shows = refl
 
 -- after the first Create
 abbrev made : Left
-made = serveBytes tiny 10 (replicate 18 0) (createA tiny 100) (formatted tiny).headers (formatted tiny).pages
+made = serve_bytes tiny 10 (replicate 18 0) (create_a tiny 100) (formatted tiny).headers (formatted tiny).pages
 
 -- The control record with next id 2 and clock 10, the first header record, and the first slot in use till 100.
 pub made_bytes : (take 76 made.headers
@@ -50,18 +50,18 @@ asked f headers pages =
     ∷ []
 
 abbrev looked : ℕ → ℕ → ℕ → List ℕ → List ℕ → List ℕ
-looked now id number headers pages = look tiny now (fileId id) (pageNum number) (1 ∷ 2 ∷ []) headers pages
+looked now id number headers pages = look tiny now (file_id id) (page_num number) (1 ∷ 2 ∷ []) headers pages
 
-pub looks : asked looked made.headers made.pages ≡ pageA tiny ∷ replicate 7 (1 ∷ 2 ∷ [])
+pub looks : asked looked made.headers made.pages ≡ page_a tiny ∷ replicate 7 (1 ∷ 2 ∷ [])
 unfolding computing
 looks = refl
 
 -- the same by where the page lies; after a Write it lies in slot 2, of the header in slot 1
 abbrev lying : ℕ → ℕ → ℕ → List ℕ → List ℕ → ℕ
-lying now id number headers pages = (lookSlot tiny now (fileId id) (pageNum number) headers pages).0
+lying now id number headers pages = (look_slot tiny now (file_id id) (page_num number) headers pages).0
 
 abbrev rewritten : Left
-rewritten = serveBytes tiny 20 (replicate 18 0) (writeB tiny 7 1) made.headers made.pages
+rewritten = serve_bytes tiny 20 (replicate 18 0) (write_b tiny 7 1) made.headers made.pages
 
 pub lies : (asked lying made.headers made.pages ≡ 1 ∷ replicate 7 0) × (lying 20 2 0 rewritten.headers rewritten.pages ≡ 2)
 unfolding computing
@@ -71,7 +71,7 @@ lies = (refl, refl)
 abbrev same : List ℕ → List ℕ → List ℕ → Left
 same page headers pages = record { report = refused 1; page = page; headers = headers; pages = pages }
 
-pub wrong-lengths : format tiny (1 ∷ []) made.pages ∷ serveBytes tiny 10 (replicate 18 0) (read_of tiny 1 0) made.headers (2 ∷ []) ∷ []
+pub wrong_lengths : format tiny (1 ∷ []) made.pages ∷ serve_bytes tiny 10 (replicate 18 0) (read_of tiny 1 0) made.headers (2 ∷ []) ∷ []
     ≡ same [] (1 ∷ []) made.pages ∷ same (replicate 4 0) made.headers (2 ∷ []) ∷ []
 unfolding computing
-wrong-lengths = refl
+wrong_lengths = refl

@@ -5,9 +5,9 @@ use mathlib.Core.Bool.{Bool, true, false}
 use mathlib.Core.List.{List, [], ◌∷◌, ◌++◌, map}
 use lib.ListN.{length, take, replicate}
 use Rattle.paper.specs.declared.Header.{Header}
-use Rattle.paper.specs.Ids.{fileId, pageId}
-use Rattle.paper.specs.Tables.{Bank, Slot, Tables, no_header, no_slot, noPages}
-use Rattle.paper.specs.Sound.{S1, S2, S3, S4, S5, sound}
+use Rattle.paper.specs.Ids.{file_id, page_id}
+use Rattle.paper.specs.Tables.{Bank, Slot, Tables, no_header, no_slot, no_pages}
+use Rattle.paper.specs.Sound.{s1, s2, s3, s4, s5, sound}
 use Rattle.paper.proofs.Computing.{computing}
 
 abbrev few : Bank
@@ -17,23 +17,23 @@ few = record { slots = 4; size = 2 }
 abbrev header : ℕ → ℕ → ℕ → ℕ → List ℕ → Header
 header id created updated expires ps = record {
   used = true;
-  id = fileId id;
+  id = file_id id;
   owner = 7;
   created = created;
   updated = updated;
   expires = expires;
-  pages = take 16 (map pageId ps ++ noPages);
+  pages = take 16 (map page_id ps ++ no_pages);
 }
 
 abbrev unused : ℕ → ℕ → ℕ → ℕ → ℕ → List ℕ → Header
 unused id owner created updated expires ps = record {
   used = false;
-  id = fileId id;
+  id = file_id id;
   owner = owner;
   created = created;
   updated = updated;
   expires = expires;
-  pages = take 16 (map pageId ps ++ noPages);
+  pages = take 16 (map page_id ps ++ no_pages);
 }
 
 abbrev slot : Bool → ℕ → ℕ → ℕ → Slot
@@ -50,7 +50,7 @@ slots = slot true 0 100 1 ∷ slot true 0 200 2 ∷ slot true 0 50 3 ∷ no_slot
 abbrev lives : List ℕ → Header
 lives ps = header 1 10 20 100 ps
 
--- Page ids in an expired header are held only to S2.
+-- Page ids in an expired header are held only to s2.
 abbrev expired : Header
 expired = header 2 10 20 50 (1 ∷ 1 ∷ 4 ∷ [])
 
@@ -66,9 +66,9 @@ sounds =
     ∷ tables 3 0 (among (header 1 20 20 20 (3 ∷ 3 ∷ []))) slots
     ∷ []
 
-pub these-sound : map (sound few) sounds ≡ replicate (length sounds) true
+pub these_sound : map (sound few) sounds ≡ replicate (length sounds) true
 unfolding computing
-these-sound = refl
+these_sound = refl
 
 abbrev damaged : List Tables
 damaged =
@@ -99,7 +99,7 @@ damaged =
     ∷ []
 
 abbrev rules : Tables → List Bool
-rules t = S1 t.hs ∷ S2 few t.hs ∷ S3 t.ps ∷ S4 few t ∷ S5 t.hs ∷ []
+rules t = s1 t.hs ∷ s2 few t.hs ∷ s3 t.ps ∷ s4 few t ∷ s5 t.hs ∷ []
 
 -- only the first rule fails, only the second ..
 abbrev one : List Bool
@@ -117,11 +117,11 @@ four = true ∷ true ∷ true ∷ false ∷ true ∷ []
 abbrev five : List Bool
 five = true ∷ true ∷ true ∷ true ∷ false ∷ []
 
-pub these-damaged : map rules damaged ≡ replicate 3 one ++ (replicate 13 two ++ (replicate 4 three ++ (replicate 2 four ++ replicate 2 five)))
+pub these_damaged : map rules damaged ≡ replicate 3 one ++ (replicate 13 two ++ (replicate 4 three ++ (replicate 2 four ++ replicate 2 five)))
 unfolding computing
-these-damaged = refl
+these_damaged = refl
 
--- a slot not in use holds no page, whatever expiry stands in it: S3 and S4
-pub slot-not-in-use : rules (tables 3 0 (among (lives (1 ∷ []))) (slot false 0 200 0 ∷ [])) ≡ true ∷ true ∷ false ∷ false ∷ true ∷ []
+-- a slot not in use holds no page, whatever expiry stands in it: s3 and s4
+pub slot_not_in_use : rules (tables 3 0 (among (lives (1 ∷ []))) (slot false 0 200 0 ∷ [])) ≡ true ∷ true ∷ false ∷ false ∷ true ∷ []
 unfolding computing
-slot-not-in-use = refl
+slot_not_in_use = refl

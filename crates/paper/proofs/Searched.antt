@@ -6,35 +6,35 @@ use mathlib.Core.List.{List}
 use Rattle.paper.specs.declared.FileId.{FileId}
 use Rattle.paper.specs.declared.Header.{Header}
 use Rattle.paper.specs.declared.Found.TheVariants.{At, Nothing}
-use Rattle.paper.specs.Ids.{pageId}
+use Rattle.paper.specs.Ids.{page_id}
 use Rattle.paper.specs.Lists.{lowest}
-use Rattle.paper.specs.Tables.{HS, PS, headerFree, slotFree, putSlot}
-use Rattle.paper.specs.Stores.{gone, no, hasId, readHeader, createHeader, replaceHeader, fullSlot, createPage}
+use Rattle.paper.specs.Tables.{HS, PS, header_free, slot_free, put_slot}
+use Rattle.paper.specs.Stores.{gone, no, has_id, read_header, create_header, replace_header, full_slot, create_page}
 
 module _ (t : ℕ) (s : HS) where
   module _ (id : FileId) where
-    pub read_none : lowest (hasId t id) s.headers ≡ Nothing → readHeader t id s ≡ no 4
-    unfolding readHeader
-    read_none e = rw (e, readHeader)
+    pub read_none : lowest (has_id t id) s.headers ≡ Nothing → read_header t id s ≡ no 4
+    unfolding read_header
+    read_none e = rw (e, read_header)
 
-    pub read_at : (n : ℕ) → lowest (hasId t id) s.headers ≡ At n → readHeader t id s ≡ gone n s
-    unfolding readHeader
-    read_at n e = rw (e, readHeader)
+    pub read_at : (n : ℕ) → lowest (has_id t id) s.headers ≡ At n → read_header t id s ≡ gone n s
+    unfolding read_header
+    read_at n e = rw (e, read_header)
 
   module _ (h : Header) where
-    pub header-none : lowest (headerFree t) s.headers ≡ Nothing → createHeader t h s ≡ no 7
-    unfolding createHeader
-    header-none e = rw (e, createHeader)
+    pub header_none : lowest (header_free t) s.headers ≡ Nothing → create_header t h s ≡ no 7
+    unfolding create_header
+    header_none e = rw (e, create_header)
 
-    pub header-at : (n : ℕ) → lowest (headerFree t) s.headers ≡ At n → createHeader t h s ≡ replaceHeader n h s
-    unfolding createHeader
-    header-at n e = rw (e, createHeader)
+    pub header_at_lem : (n : ℕ) → lowest (header_free t) s.headers ≡ At n → create_header t h s ≡ replace_header n h s
+    unfolding create_header
+    header_at_lem n e = rw (e, create_header)
 
 module _ (t e : ℕ) (page : List ℕ) (ps : PS) where
-  pub page-none : lowest (slotFree t) ps ≡ Nothing → createPage t page e ps ≡ no 7
-  unfolding createPage
-  page-none h = rw (createPage, h)
+  pub page_none : lowest (slot_free t) ps ≡ Nothing → create_page t page e ps ≡ no 7
+  unfolding create_page
+  page_none h = rw (create_page, h)
 
-  pub page-at : (n : ℕ) → lowest (slotFree t) ps ≡ At n → createPage t page e ps ≡ gone n (putSlot (pageId n) (fullSlot page e) ps)
-  unfolding createPage
-  page-at n h = rw (createPage, h)
+  pub page_at_lem : (n : ℕ) → lowest (slot_free t) ps ≡ At n → create_page t page e ps ≡ gone n (put_slot (page_id n) (full_slot page e) ps)
+  unfolding create_page
+  page_at_lem n h = rw (create_page, h)

@@ -10,17 +10,17 @@ use Rattle.paper.proofs.Computing.{computing}
 abbrev rows : List Call → List Reply → List (List ℕ)
 rows cs rs = zip_with (λ (c : Call) (r : Reply). shows c r.report r.page) cs rs
 
-pub sessions-show : map (λ cs. rows cs (run standard cs (fresh standard))) (sessions standard) ≡ shown
+pub sessions_show : map (λ cs. rows cs (run standard cs (fresh standard))) (sessions standard) ≡ shown
 unfolding computing
-sessions-show = refl
+sessions_show = refl
 
 -- the numbers of these rows are the document's lines
 abbrev number : List ℕ → ℕ
 number [] = 0
 number (n ∷ ns) = n
 
-pub sessions-print : map (map number) shown ≡ printed
-sessions-print = refl
+pub sessions_print : map (map number) shown ≡ printed
+sessions_print = refl
 
 pub thirteen : map (λ (r : Reply). r.report.number) (session13 standard) ≡ 0 ∷ 2 ∷ []
 unfolding computing

@@ -24,7 +24,7 @@ module _ {A : Type 0} where
   all_more f g h [] e = refl
   all_more f g h (x ∷ xs) e = rw (h x (left (f x) (all f xs) e)) (all_more f g h xs (right (f x) (all f xs) e))
 
-  pub all-at : (f : A → Bool) (d : A) (k : ℕ) (xs : List A) → all f xs ≡ true → k < length xs → f (get_or xs k d) ≡ true
-  all-at f d k [] e l = absurd (omega arith)
-  all-at f d zero (x ∷ xs) e l = left (f x) (all f xs) e
-  all-at f d (suc k) (x ∷ xs) e l = all-at f d k xs (right (f x) (all f xs) e) (omega arith)
+  pub all_at : (f : A → Bool) (d : A) (k : ℕ) (xs : List A) → all f xs ≡ true → k < length xs → f (get_or xs k d) ≡ true
+  all_at f d k [] e l = absurd (omega arith)
+  all_at f d zero (x ∷ xs) e l = left (f x) (all f xs) e
+  all_at f d (suc k) (x ∷ xs) e l = all_at f d k xs (right (f x) (all f xs) e) (omega arith)

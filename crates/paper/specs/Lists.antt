@@ -20,13 +20,13 @@ module _ {A : Type 0} where
   those f (x ∷ xs) = cond (f x) (x ∷ those f xs) (those f xs)
 
   -- the number of the first that passes, where the list's first has number n
-  unfoldable pub lowestFrom : (A → Bool) → ℕ → List A → Found
-  lowestFrom f n [] = Nothing
-  lowestFrom f n (x ∷ xs) = cond (f x) (At n) (lowestFrom f (suc n) xs)
+  unfoldable pub lowest_from : (A → Bool) → ℕ → List A → Found
+  lowest_from f n [] = Nothing
+  lowest_from f n (x ∷ xs) = cond (f x) (At n) (lowest_from f (suc n) xs)
 
   -- slots are numbered from 1
   abbrev pub lowest : (A → Bool) → List A → Found
-  lowest f xs = lowestFrom f 1 xs
+  lowest f xs = lowest_from f 1 xs
 
   -- the one with number n, or d where there is none
   unfoldable pub numbered : A → List A → ℕ → A

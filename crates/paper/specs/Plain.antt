@@ -4,8 +4,8 @@ use Rattle.std.proofs.Math.Option.{Option, none, some}
 use Rattle.paper.specs.declared.FileId.{FileId}
 use Rattle.paper.specs.declared.PageNum.{PageNum}
 use Rattle.paper.specs.declared.Facts.{Facts}
-use Rattle.paper.specs.Ids.{fileId, noMoreIds, later}
-use Rattle.paper.specs.Answers.{Request, Create, Write, Read, Info, Destroy, SetExpiry, Scavenge, lentPage, Report, Gift, nothing, anId, facts, contents, succeeded, refused, pageAfter}
+use Rattle.paper.specs.Ids.{file_id, no_more_ids, later}
+use Rattle.paper.specs.Answers.{Request, Create, Write, Read, Info, Destroy, SetExpiry, Scavenge, lent_page, Report, Gift, nothing, an_id, facts, contents, succeeded, refused, page_after}
 
 -- owner, three times, and pages by number
 pub record File : Type 0 where
@@ -18,8 +18,8 @@ pub record Plain : Type 0 where
   pub files : FileId → Option File
 
 -- no files, clock 0, next id 1
-abbrev pub freshMachine : Plain
-freshMachine = record { clock = 0; next = 1; files = λ x. none }
+abbrev pub fresh_machine : Plain
+fresh_machine = record { clock = 0; next = 1; files = λ x. none }
 
 -- It never holds a file whose expiry its clock has reached, a new one included.
 abbrev pub kept : ℕ → Option File → Option File
@@ -47,22 +47,22 @@ pub data Deed : Type 0 where
 
 -- the file under the next id, which is given
 abbrev pub storing : File → Plain → Deed
-storing f m = cond (ltb m.next noMoreIds) (does (anId (fileId m.next)) (holding f m)) (refuses 8)
+storing f m = cond (ltb m.next no_more_ids) (does (an_id (file_id m.next)) (holding f m)) (refuses 8)
 
-abbrev pub onFile : FileId → Plain → (File → Deed) → Deed
-onFile id m d = elim (m.files id) [ none ↦ refuses 4 | some f ↦ d f ]
+abbrev pub on_file : FileId → Plain → (File → Deed) → Deed
+on_file id m d = elim (m.files id) [ none ↦ refuses 4 | some f ↦ d f ]
 
-abbrev pub byOwner : ℕ → File → Deed → Deed
-byOwner client f d = cond (eqb f.facts.owner client) d (refuses 5)
+abbrev pub by_owner : ℕ → File → Deed → Deed
+by_owner client f d = cond (eqb f.facts.owner client) d (refuses 5)
 
-abbrev pub withPage : PageNum → List ℕ → (PageNum → Option (List ℕ)) → PageNum → Option (List ℕ)
-withPage number page pages n = cond (eqb n.0 number.0) (some page) (pages n)
+abbrev pub with_page : PageNum → List ℕ → (PageNum → Option (List ℕ)) → PageNum → Option (List ℕ)
+with_page number page pages n = cond (eqb n.0 number.0) (some page) (pages n)
 
-unfoldable pub plainCreate : ℕ → PageNum → List ℕ → ℕ → Plain → Deed
-plainCreate client number page expires m =
+unfoldable pub plain_create : ℕ → PageNum → List ℕ → ℕ → Plain → Deed
+plain_create client number page expires m =
     storing (record {
       facts = record { owner = client; created = m.clock; updated = m.clock; expires = later expires m.clock };
-      pages = withPage number page (λ n. none);
+      pages = with_page number page (λ n. none);
     }) m
 
 -- the file again, with another expiry and other pages, updated now
@@ -72,30 +72,30 @@ renewed m e pages f = record {
   pages = pages;
 }
 
-unfoldable pub plainWrite : ℕ → FileId → PageNum → List ℕ → Plain → Deed
-plainWrite client id number page m =
-    onFile id m (λ f. byOwner client f (storing (renewed m f.facts.expires (withPage number page f.pages) f) (without id m)))
+unfoldable pub plain_write : ℕ → FileId → PageNum → List ℕ → Plain → Deed
+plain_write client id number page m =
+    on_file id m (λ f. by_owner client f (storing (renewed m f.facts.expires (with_page number page f.pages) f) (without id m)))
 
-unfoldable pub plainRead : FileId → PageNum → Plain → Deed
-plainRead id number m = onFile id m (λ f. elim (f.pages number) [ none ↦ refuses 6 | some c ↦ does (contents c) m ])
+unfoldable pub plain_read : FileId → PageNum → Plain → Deed
+plain_read id number m = on_file id m (λ f. elim (f.pages number) [ none ↦ refuses 6 | some c ↦ does (contents c) m ])
 
-unfoldable pub plainInfo : FileId → Plain → Deed
-plainInfo id m = onFile id m (λ f. does (facts f.facts) m)
+unfoldable pub plain_info : FileId → Plain → Deed
+plain_info id m = on_file id m (λ f. does (facts f.facts) m)
 
-unfoldable pub plainDestroy : ℕ → FileId → Plain → Deed
-plainDestroy client id m = onFile id m (λ f. byOwner client f (does nothing (without id m)))
+unfoldable pub plain_destroy : ℕ → FileId → Plain → Deed
+plain_destroy client id m = on_file id m (λ f. by_owner client f (does nothing (without id m)))
 
-unfoldable pub plainSetExpiry : ℕ → FileId → ℕ → Plain → Deed
-plainSetExpiry client id expires m =
-    onFile id m (λ f. byOwner client f (storing (renewed m (later expires m.clock) f.pages f) (without id m)))
+unfoldable pub plain_set_expiry : ℕ → FileId → ℕ → Plain → Deed
+plain_set_expiry client id expires m =
+    on_file id m (λ f. by_owner client f (storing (renewed m (later expires m.clock) f.pages f) (without id m)))
 
 unfoldable pub deed : Request → Plain → Deed
-deed (Create client number page expires) m = plainCreate client number page expires m
-deed (Write client id number page) m = plainWrite client id number page m
-deed (Read id number lent) m = plainRead id number m
-deed (Info id) m = plainInfo id m
-deed (Destroy client id) m = plainDestroy client id m
-deed (SetExpiry client id expires) m = plainSetExpiry client id expires m
+deed (Create client number page expires) m = plain_create client number page expires m
+deed (Write client id number page) m = plain_write client id number page m
+deed (Read id number lent) m = plain_read id number m
+deed (Info id) m = plain_info id m
+deed (Destroy client id) m = plain_destroy client id m
+deed (SetExpiry client id expires) m = plain_set_expiry client id expires m
 deed Scavenge m = does nothing m
 
 -- What a request answers on the plain machine, and the machine that it leaves.
@@ -105,9 +105,9 @@ pub record Told : Type 0 where
   pub machine : Plain
 
 unfoldable pub told : List ℕ → Plain → Deed → Told
-told lent m (does g m') = record { report = succeeded g; page = pageAfter g lent; machine = m' }
+told lent m (does g m') = record { report = succeeded g; page = page_after g lent; machine = m' }
 told lent m (refuses n) = record { report = refused n; page = lent; machine = m }
 
 -- the time is taken first
 unfoldable pub plain : ℕ → Request → Plain → Told
-plain now r m = told (lentPage r) (passed now m) (deed r (passed now m))
+plain now r m = told (lent_page r) (passed now m) (deed r (passed now m))

@@ -5,20 +5,20 @@ use Rattle.paper.specs.declared.PageId.{PageId}
 use Rattle.paper.specs.declared.PageNum.{PageNum}
 use Rattle.paper.specs.declared.Header.{Header}
 use Rattle.paper.specs.declared.Facts.{Facts}
-use Rattle.paper.specs.Ids.{fileId, pageId, nullId, later}
+use Rattle.paper.specs.Ids.{file_id, page_id, null_id, later}
 use Rattle.paper.specs.Lists.{all, is_zero}
-use Rattle.paper.specs.Tables.{Bank, Tables, noPages, clockOf, header_at, slot_at, getPageId, withClock}
+use Rattle.paper.specs.Tables.{Bank, Tables, no_pages, clock_of, header_at, slot_at, get_page_id, with_clock}
 use Rattle.paper.specs.Sound.{sound}
-use Rattle.paper.specs.Stores.{createPage, readPage, destroyPage, setPageExpiry, scavengePages, createHeader, readHeader, replaceHeader, destroyHeader, scavengeHeaders}
-use Rattle.paper.specs.Steps.{Run, on, end, Steps, ◌>>=◌, ◌>>◌, give, ask, check, step, cleanup, headerStep, eachPage, onHeaders, onPages}
-use Rattle.paper.specs.Answers.{Request, Create, Write, Read, Info, Destroy, SetExpiry, Scavenge, lentPage, Report, Gift, nothing, anId, facts, counts, contents, succeeded, refused, pageAfter}
+use Rattle.paper.specs.Stores.{create_page, read_page, destroy_page, set_page_expiry, scavenge_pages, create_header, read_header, replace_header, destroy_header, scavenge_headers}
+use Rattle.paper.specs.Steps.{Run, on, end, Steps, ◌>>=◌, ◌>>◌, give, ask, check, step, cleanup, header_step, each_page, on_headers, on_pages}
+use Rattle.paper.specs.Answers.{Request, Create, Write, Read, Info, Destroy, SetExpiry, Scavenge, lent_page, Report, Gift, nothing, an_id, facts, counts, contents, succeeded, refused, page_after}
 
 -- a header without pages; its id comes from the step that stores it
-abbrev pub makeHeader : ℕ → ℕ → ℕ → Header
-makeHeader now client e = record { used = true; id = nullId; owner = client; created = now; updated = now; expires = e; pages = noPages }
+abbrev pub make_header : ℕ → ℕ → ℕ → Header
+make_header now client e = record { used = true; id = null_id; owner = client; created = now; updated = now; expires = e; pages = no_pages }
 
-abbrev pub putPageId : ℕ → PageNum → PageId → Header → Header
-putPageId now n p h = record {
+abbrev pub put_page_id : ℕ → PageNum → PageId → Header → Header
+put_page_id now n p h = record {
   used = h.used;
   id = h.id;
   owner = h.owner;
@@ -28,8 +28,8 @@ putPageId now n p h = record {
   pages = set h.pages n.0 p;
 }
 
-abbrev pub setHeaderExpiry : ℕ → ℕ → Header → Header
-setHeaderExpiry now e h = record {
+abbrev pub set_header_expiry : ℕ → ℕ → Header → Header
+set_header_expiry now e h = record {
   used = h.used;
   id = h.id;
   owner = h.owner;
@@ -43,14 +43,14 @@ abbrev pub facts_of : Header → Facts
 facts_of h = record { owner = h.owner; created = h.created; updated = h.updated; expires = h.expires }
 
 -- The header is unpacked afterwards from the slot.
-abbrev pub headerIn : ℕ → Tables → Header
-headerIn n t = header_at t.hs n
+abbrev pub header_in : ℕ → Tables → Header
+header_in n t = header_at t.hs n
 
-abbrev pub checkOwner : ℕ → Header → Steps ℕ
-checkOwner client h = check (eqb h.owner client) 5
+abbrev pub check_owner : ℕ → Header → Steps ℕ
+check_owner client h = check (eqb h.owner client) 5
 
-abbrev pub checkPageId : PageId → Steps ℕ
-checkPageId p = check (not (is_zero p.0)) 6
+abbrev pub check_page_id : PageId → Steps ℕ
+check_page_id p = check (not (is_zero p.0)) 6
 
 -- Create: let e be the later of expires and now. 1 create page with expiry e; 2 create header: owner client,
 -- created = updated = now, expires e, that one page id.
@@ -58,74 +58,74 @@ unfoldable pub create : ℕ → ℕ → PageNum → List ℕ → ℕ → Steps G
 create now client number page expires =
     let e = later expires now in
     do
-      p ← step (onPages (createPage now page e))
-      i ← headerStep (createHeader now (putPageId now number (pageId p) (makeHeader now client e)))
-      give (anId (fileId i))
+      p ← step (on_pages (create_page now page e))
+      i ← header_step (create_header now (put_page_id now number (page_id p) (make_header now client e)))
+      give (an_id (file_id i))
 
 -- Write: 1 read header; owner check; 2 create page with the header's expiry; 3 replace header, updated = now;
 -- 4 destroy the former page, if any.
 unfoldable pub write : Bank → ℕ → ℕ → FileId → PageNum → List ℕ → Steps Gift
 write b now client id number page = do
-  n ← step (onHeaders (readHeader now id))
-  h ← ask (headerIn n)
-  checkOwner client h
-  p ← step (onPages (createPage now page h.expires))
-  i ← headerStep (replaceHeader n (putPageId now number (pageId p) h))
-  eachPage (λ q. cleanup (onPages (destroyPage b q))) (getPageId h number ∷ [])
-  give (anId (fileId i))
+  n ← step (on_headers (read_header now id))
+  h ← ask (header_in n)
+  check_owner client h
+  p ← step (on_pages (create_page now page h.expires))
+  i ← header_step (replace_header n (put_page_id now number (page_id p) h))
+  each_page (λ q. cleanup (on_pages (destroy_page b q))) (get_page_id h number ∷ [])
+  give (an_id (file_id i))
 
 -- Read: 1 read header; page check; 2 read page into the lent page.
 unfoldable pub read : Bank → ℕ → FileId → PageNum → Steps Gift
 read b now id number = do
-  n ← step (onHeaders (readHeader now id))
-  h ← ask (headerIn n)
-  checkPageId (getPageId h number)
-  p ← step (onPages (readPage (getPageId h number)))
-  c ← ask (λ t. (slot_at b t.ps (pageId p)).contents)
+  n ← step (on_headers (read_header now id))
+  h ← ask (header_in n)
+  check_page_id (get_page_id h number)
+  p ← step (on_pages (read_page (get_page_id h number)))
+  c ← ask (λ t. (slot_at b t.ps (page_id p)).contents)
   give (contents c)
 
 -- Info: 1 read header; gives owner, created, updated, expires.
 unfoldable pub info : ℕ → FileId → Steps Gift
 info now id = do
-  n ← step (onHeaders (readHeader now id))
-  h ← ask (headerIn n)
+  n ← step (on_headers (read_header now id))
+  h ← ask (header_in n)
   give (facts (facts_of h))
 
 -- Destroy: 1 read header; owner check; 2 destroy header; then destroy each page, by rising page number.
 unfoldable pub destroy : Bank → ℕ → ℕ → FileId → Steps Gift
 destroy b now client id = do
-  n ← step (onHeaders (readHeader now id))
-  h ← ask (headerIn n)
-  checkOwner client h
-  headerStep (destroyHeader n)
-  eachPage (λ q. cleanup (onPages (destroyPage b q))) h.pages
+  n ← step (on_headers (read_header now id))
+  h ← ask (header_in n)
+  check_owner client h
+  header_step (destroy_header n)
+  each_page (λ q. cleanup (on_pages (destroy_page b q))) h.pages
   give nothing
 
 -- SetExpiry: e as in Create. 1 read header; owner check. If e is at least the old expiry: set each page's expiry to e,
 -- by rising number, then replace the header. Otherwise replace the header, then set each page.
-unfoldable pub setExpiry : Bank → ℕ → ℕ → FileId → ℕ → Steps Gift
-setExpiry b now client id expires =
+unfoldable pub set_expiry : Bank → ℕ → ℕ → FileId → ℕ → Steps Gift
+set_expiry b now client id expires =
     let e = later expires now in
     do
-      n ← step (onHeaders (readHeader now id))
-      h ← ask (headerIn n)
-      checkOwner client h
+      n ← step (on_headers (read_header now id))
+      h ← ask (header_in n)
+      check_owner client h
       i ←
           cond (leb h.expires e)
           (do
-            eachPage (λ q. step (onPages (setPageExpiry b e q))) h.pages
-            headerStep (replaceHeader n (setHeaderExpiry now e h)))
+            each_page (λ q. step (on_pages (set_page_expiry b e q))) h.pages
+            header_step (replace_header n (set_header_expiry now e h)))
           (do
-            i ← headerStep (replaceHeader n (setHeaderExpiry now e h))
-            eachPage (λ q. cleanup (onPages (setPageExpiry b e q))) h.pages
+            i ← header_step (replace_header n (set_header_expiry now e h))
+            each_page (λ q. cleanup (on_pages (set_page_expiry b e q))) h.pages
             give i)
-      give (anId (fileId i))
+      give (an_id (file_id i))
 
 -- Scavenge: 1 zero every header in use with expires <= now; 2 the same for page slots. Gives both numbers.
 unfoldable pub scavenge : Bank → ℕ → Steps Gift
 scavenge b now = do
-  h ← step (onHeaders (scavengeHeaders now))
-  p ← step (onPages (scavengePages b now))
+  h ← step (on_headers (scavenge_headers now))
+  p ← step (on_pages (scavenge_pages b now))
   give (counts (record { headers = h; pages = p }))
 
 unfoldable pub steps_of : Bank → ℕ → Request → Steps Gift
@@ -134,7 +134,7 @@ steps_of b now (Write client id number page) = write b now client id number page
 steps_of b now (Read id number lent) = read b now id number
 steps_of b now (Info id) = info now id
 steps_of b now (Destroy client id) = destroy b now client id
-steps_of b now (SetExpiry client id expires) = setExpiry b now client id expires
+steps_of b now (SetExpiry client id expires) = set_expiry b now client id expires
 steps_of b now Scavenge = scavenge b now
 
 -- What a request answers and leaves: the report, the lent page, the tables; and whether its header step went through.
@@ -144,37 +144,37 @@ pub record Reply : Type 0 where
   pub tables : Tables
   pub past : Bool
 
-unfoldable pub replyOf : List ℕ → Run Gift → Reply
-replyOf lent (on g s) = record { report = succeeded g; page = pageAfter g lent; tables = s.tables; past = s.past }
-replyOf lent (end n s) = record { report = refused n; page = lent; tables = s.tables; past = s.past }
+unfoldable pub reply_of : List ℕ → Run Gift → Reply
+reply_of lent (on g s) = record { report = succeeded g; page = page_after g lent; tables = s.tables; past = s.past }
+reply_of lent (end n s) = record { report = refused n; page = lent; tables = s.tables; past = s.past }
 
 -- All but Format and Look store now as the clock before step 1.
-unfoldable pub carryOut : Bank → ℕ → List ℕ → Request → Tables → Reply
-carryOut b now os r t = replyOf (lentPage r) (steps_of b now r os (record { taken = 0; past = false; tables = withClock now t }))
+unfoldable pub carry_out : Bank → ℕ → List ℕ → Request → Tables → Reply
+carry_out b now os r t = reply_of (lent_page r) (steps_of b now r os (record { taken = 0; past = false; tables = with_clock now t }))
 
 -- BadCall, but for the lengths of the tables: a page number above 15, a page of another length
-unfoldable pub pageFits : Bank → PageNum → List ℕ → Bool
-pageFits b number page = leb number.0 15 && eqb (length page) b.size
+unfoldable pub page_fits : Bank → PageNum → List ℕ → Bool
+page_fits b number page = leb number.0 15 && eqb (length page) b.size
 
-unfoldable pub wellFormed : Bank → Request → Bool
-wellFormed b (Create client number page expires) = pageFits b number page
-wellFormed b (Write client id number page) = pageFits b number page
-wellFormed b (Read id number lent) = pageFits b number lent
-wellFormed b (Info id) = true
-wellFormed b (Destroy client id) = true
-wellFormed b (SetExpiry client id expires) = true
-wellFormed b Scavenge = true
+unfoldable pub well_formed : Bank → Request → Bool
+well_formed b (Create client number page expires) = page_fits b number page
+well_formed b (Write client id number page) = page_fits b number page
+well_formed b (Read id number lent) = page_fits b number lent
+well_formed b (Info id) = true
+well_formed b (Destroy client id) = true
+well_formed b (SetExpiry client id expires) = true
+well_formed b Scavenge = true
 
 -- an outcome list of 18 bytes, none above 2
-abbrev pub outcomesFit : List ℕ → Bool
-outcomesFit os = eqb (length os) 18 && all (λ o. leb o 2) os
+abbrev pub outcomes_fit : List ℕ → Bool
+outcomes_fit os = eqb (length os) 18 && all (λ o. leb o 2) os
 
 -- 1, 2 and 3 are checked in that order before all else; 0 when none of them is given
 unfoldable pub checked : Bank → ℕ → List ℕ → Request → Tables → ℕ
 checked b now os r t =
-    cond (wellFormed b r && outcomesFit os)
+    cond (well_formed b r && outcomes_fit os)
     (cond (sound b t)
-    (cond (leb (clockOf t) now) 0 3)
+    (cond (leb (clock_of t) now) 0 3)
     2)
     1
 
@@ -182,4 +182,4 @@ checked b now os r t =
 unfoldable pub serve : Bank → ℕ → List ℕ → Request → Tables → Reply
 serve b now os r t =
     let n = checked b now os r t in
-    cond (is_zero n) (carryOut b now os r t) (record { report = refused n; page = lentPage r; tables = t; past = false })
+    cond (is_zero n) (carry_out b now os r t) (record { report = refused n; page = lent_page r; tables = t; past = false })

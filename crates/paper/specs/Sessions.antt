@@ -1,12 +1,12 @@
 -- The sessions worked by hand, on any bank, and what document 01 says that they print and show.
 use Rattle.std.specs.Prelude.{ℕ, ◌-◌, List, [], ◌∷◌, set, replicate, take}
 use Rattle.paper.specs.declared.Header.{Header}
-use Rattle.paper.specs.Ids.{fileId, pageId, pageNum}
-use Rattle.paper.specs.Tables.{Bank, Tables, fresh, header_at, putHeader}
+use Rattle.paper.specs.Ids.{file_id, page_id, page_num}
+use Rattle.paper.specs.Tables.{Bank, Tables, fresh, header_at, put_header}
 use Rattle.paper.specs.Answers.{Request, Create, Write, Read, Info, Destroy, SetExpiry, Scavenge, Report}
 use Rattle.paper.specs.Requests.{Reply, serve}
-use Rattle.paper.specs.Bytes.{headersLength, pagesLength}
-use Rattle.paper.specs.Service.{Left, serveBytes, format}
+use Rattle.paper.specs.Bytes.{headers_length, pages_length}
+use Rattle.paper.specs.Service.{Left, serve_bytes, format}
 
 pub record Call : Type 0 where
   pub now : ℕ
@@ -22,43 +22,43 @@ abbrev pub failing : ℕ → ℕ → ℕ → Request → Call
 failing k o now r = record { now = now; outcomes = set (replicate 18 0) (k - 1) o; request = r }
 
 -- page A is 41 hex, B is 42 hex
-abbrev pub pageA : Bank → List ℕ
-pageA b = replicate b.size 0x41
+abbrev pub page_a : Bank → List ℕ
+page_a b = replicate b.size 0x41
 
-abbrev pub pageB : Bank → List ℕ
-pageB b = replicate b.size 0x42
+abbrev pub page_b : Bank → List ℕ
+page_b b = replicate b.size 0x42
 
-abbrev pub createA : Bank → ℕ → Request
-createA b expires = Create 7 (pageNum 0) (pageA b) expires
+abbrev pub create_a : Bank → ℕ → Request
+create_a b expires = Create 7 (page_num 0) (page_a b) expires
 
-abbrev pub writeB : Bank → ℕ → ℕ → Request
-writeB b client id = Write client (fileId id) (pageNum 0) (pageB b)
+abbrev pub write_b : Bank → ℕ → ℕ → Request
+write_b b client id = Write client (file_id id) (page_num 0) (page_b b)
 
 -- into a page of zeros
 abbrev pub read_of : Bank → ℕ → ℕ → Request
-read_of b id number = Read (fileId id) (pageNum number) (replicate b.size 0)
+read_of b id number = Read (file_id id) (page_num number) (replicate b.size 0)
 
-abbrev pub setExpiryTo : ℕ → Request
-setExpiryTo expires = SetExpiry 7 (fileId 1) expires
+abbrev pub set_expiry_to : ℕ → Request
+set_expiry_to expires = SetExpiry 7 (file_id 1) expires
 
 -- Each begins with Create at 10, number 0, A, expires 100.
 abbrev pub first : Bank → Call
-first b = at 10 (createA b 100)
+first b = at 10 (create_a b 100)
 
 abbrev pub sessions : Bank → List (List Call)
 sessions b =
     (first b ∷ at 99 (read_of b 1 0) ∷ at 100 (read_of b 1 0) ∷ [])
     ∷ (first b ∷ at 11 (read_of b 1 1) ∷ at 11 (read_of b 1 16) ∷ [])
-    ∷ (at 10 (createA b 5) ∷ at 10 (read_of b 1 0) ∷ [])
-    ∷ (first b ∷ at 11 (writeB b 8 1) ∷ at 11 (writeB b 8 2) ∷ [])
-    ∷ (first b ∷ failing 3 1 20 (writeB b 7 1) ∷ at 20 (read_of b 1 0) ∷ at 20 (read_of b 2 0) ∷ [])
-    ∷ (first b ∷ failing 4 1 20 (writeB b 7 1) ∷ at 20 (read_of b 2 0) ∷ at 20 (read_of b 1 0) ∷ [])
-    ∷ (first b ∷ failing 3 2 20 (writeB b 7 1) ∷ at 20 (read_of b 1 0) ∷ [])
-    ∷ (first b ∷ failing 4 2 20 (writeB b 7 1) ∷ at 20 (read_of b 1 0) ∷ at 20 (read_of b 2 0) ∷ [])
-    ∷ (first b ∷ failing 2 1 20 (setExpiryTo 200) ∷ at 100 (read_of b 1 0) ∷ [])
-    ∷ (first b ∷ failing 3 1 20 (setExpiryTo 50) ∷ at 49 (read_of b 2 0) ∷ at 50 (read_of b 2 0) ∷ [])
+    ∷ (at 10 (create_a b 5) ∷ at 10 (read_of b 1 0) ∷ [])
+    ∷ (first b ∷ at 11 (write_b b 8 1) ∷ at 11 (write_b b 8 2) ∷ [])
+    ∷ (first b ∷ failing 3 1 20 (write_b b 7 1) ∷ at 20 (read_of b 1 0) ∷ at 20 (read_of b 2 0) ∷ [])
+    ∷ (first b ∷ failing 4 1 20 (write_b b 7 1) ∷ at 20 (read_of b 2 0) ∷ at 20 (read_of b 1 0) ∷ [])
+    ∷ (first b ∷ failing 3 2 20 (write_b b 7 1) ∷ at 20 (read_of b 1 0) ∷ [])
+    ∷ (first b ∷ failing 4 2 20 (write_b b 7 1) ∷ at 20 (read_of b 1 0) ∷ at 20 (read_of b 2 0) ∷ [])
+    ∷ (first b ∷ failing 2 1 20 (set_expiry_to 200) ∷ at 100 (read_of b 1 0) ∷ [])
+    ∷ (first b ∷ failing 3 1 20 (set_expiry_to 50) ∷ at 49 (read_of b 2 0) ∷ at 50 (read_of b 2 0) ∷ [])
     ∷ (first b ∷ at 9 (read_of b 1 0) ∷ at 10 (read_of b 1 0) ∷ [])
-    ∷ (first b ∷ failing 3 1 20 (Destroy 7 (fileId 1)) ∷ at 99 Scavenge ∷ at 100 Scavenge ∷ [])
+    ∷ (first b ∷ failing 3 1 20 (Destroy 7 (file_id 1)) ∷ at 99 Scavenge ∷ at 100 Scavenge ∷ [])
     ∷ []
 
 -- the answer numbers that the test program prints, Create's included
@@ -101,13 +101,13 @@ run b [] t = []
 run b (c ∷ cs) t = let r = serve b c.now c.outcomes c.request t in r ∷ run b cs r.tables
 
 -- the same through bytes
-unfoldable pub runBytes : Bank → List Call → Left → List Left
-runBytes b [] l = []
-runBytes b (c ∷ cs) l = let r = serveBytes b c.now c.outcomes c.request l.headers l.pages in r ∷ runBytes b cs r
+unfoldable pub run_bytes : Bank → List Call → Left → List Left
+run_bytes b [] l = []
+run_bytes b (c ∷ cs) l = let r = serve_bytes b c.now c.outcomes c.request l.headers l.pages in r ∷ run_bytes b cs r
 
 -- Fresh tables, made by Format from bytes that are all ones.
 unfoldable pub formatted : Bank → Left
-formatted b = format b (replicate headersLength 255) (replicate (pagesLength b) 255)
+formatted b = format b (replicate headers_length 255) (replicate (pages_length b) 255)
 
 unfoldable pub given : Request → Report → List ℕ → List ℕ
 given (Create client number page expires) r p = r.id.0 ∷ []
@@ -122,19 +122,19 @@ unfoldable pub shows : Call → Report → List ℕ → List ℕ
 shows c r p = r.number ∷ given c.request r p
 
 -- Session 13: the header's page id altered to 2; Read at 10.
-abbrev pub alteredTo : ℕ → Header → Header
-alteredTo p h = record {
+abbrev pub altered_to : ℕ → Header → Header
+altered_to p h = record {
   used = h.used;
   id = h.id;
   owner = h.owner;
   created = h.created;
   updated = h.updated;
   expires = h.expires;
-  pages = set h.pages 0 (pageId p);
+  pages = set h.pages 0 (page_id p);
 }
 
 unfoldable pub session13 : Bank → List Reply
 session13 b =
-    let r = serve b 10 (replicate 18 0) (createA b 100) (fresh b) in
+    let r = serve b 10 (replicate 18 0) (create_a b 100) (fresh b) in
     let t = r.tables in
-    r ∷ run b (at 10 (read_of b 1 0) ∷ []) (record { hs = putHeader 1 (alteredTo 2 (header_at t.hs 1)) t.hs; ps = t.ps })
+    r ∷ run b (at 10 (read_of b 1 0) ∷ []) (record { hs = put_header 1 (altered_to 2 (header_at t.hs 1)) t.hs; ps = t.ps })

@@ -3,7 +3,7 @@ use Rattle.std.specs.Prelude.{ℕ, zero, suc, Bool, true, cond, List, [], ◌∷
 use Rattle.paper.specs.declared.PageId.{PageId}
 use Rattle.paper.specs.declared.Step.{Step}
 use Rattle.paper.specs.declared.Step.TheVariants.{Gone, Refused, Cut}
-use Rattle.paper.specs.Ids.{pageId}
+use Rattle.paper.specs.Ids.{page_id}
 use Rattle.paper.specs.Tables.{HS, PS, Tables}
 use Rattle.paper.specs.Stores.{Try, gone, no}
 
@@ -28,19 +28,19 @@ module _ {S : Type 0} where
   attempt (suc (suc o)) f s = done Cut s
 
 -- Each step touches one bank alone.
-unfoldable pub inHeaders : Try HS → Tables → Try Tables
-inHeaders (gone n s) t = gone n (record { hs = s; ps = t.ps })
-inHeaders (no a) t = no a
+unfoldable pub in_headers : Try HS → Tables → Try Tables
+in_headers (gone n s) t = gone n (record { hs = s; ps = t.ps })
+in_headers (no a) t = no a
 
-unfoldable pub inPages : Try PS → Tables → Try Tables
-inPages (gone n s) t = gone n (record { hs = t.hs; ps = s })
-inPages (no a) t = no a
+unfoldable pub in_pages : Try PS → Tables → Try Tables
+in_pages (gone n s) t = gone n (record { hs = t.hs; ps = s })
+in_pages (no a) t = no a
 
-abbrev pub onHeaders : (HS → Try HS) → Tables → Try Tables
-onHeaders f t = inHeaders (f t.hs) t
+abbrev pub on_headers : (HS → Try HS) → Tables → Try Tables
+on_headers f t = in_headers (f t.hs) t
 
-abbrev pub onPages : (PS → Try PS) → Tables → Try Tables
-onPages f t = inPages (f t.ps) t
+abbrev pub on_pages : (PS → Try PS) → Tables → Try Tables
+on_pages f t = in_pages (f t.ps) t
 
 -- Where a request stands: the steps taken, whether its header step has gone through, the tables.
 pub record State : Type 0 where
@@ -100,23 +100,23 @@ unfoldable pub step : (Tables → Try Tables) → Steps ℕ
 step f os s = let d = attempted f os s in settle d.step (stepped s d.store)
 
 -- a later refused step is passed over ..; a Cut there is Cut
-unfoldable pub passOver : Step → State → Run ℕ
-passOver (Gone n) s = on n s
-passOver (Refused a) s = on 0 s
-passOver Cut s = end 10 s
+unfoldable pub pass_over : Step → State → Run ℕ
+pass_over (Gone n) s = on n s
+pass_over (Refused a) s = on 0 s
+pass_over Cut s = end 10 s
 
 unfoldable pub cleanup : (Tables → Try Tables) → Steps ℕ
-cleanup f os s = let d = attempted f os s in passOver d.step (stepped s d.store)
+cleanup f os s = let d = attempted f os s in pass_over d.step (stepped s d.store)
 
 -- The header step is creating, replacing or destroying the header.
 unfoldable pub marked : Run ℕ → Run ℕ
 marked (on n s) = on n (record { taken = s.taken; past = true; tables = s.tables })
 marked (end a s) = end a s
 
-unfoldable pub headerStep : (HS → Try HS) → Steps ℕ
-headerStep f os s = marked (step (onHeaders f) os s)
+unfoldable pub header_step : (HS → Try HS) → Steps ℕ
+header_step f os s = marked (step (on_headers f) os s)
 
 -- Page id 0 makes no step; by rising page number
-unfoldable pub eachPage : (PageId → Steps ℕ) → List PageId → Steps ℕ
-eachPage f [] = give 0
-eachPage f (p ∷ ps) = elim p.0 [ zero ↦ eachPage f ps | suc k ↦ f (pageId (suc k)) >> eachPage f ps ]
+unfoldable pub each_page : (PageId → Steps ℕ) → List PageId → Steps ℕ
+each_page f [] = give 0
+each_page f (p ∷ ps) = elim p.0 [ zero ↦ each_page f ps | suc k ↦ f (page_id (suc k)) >> each_page f ps ]

@@ -6,9 +6,9 @@ use Rattle.paper.specs.declared.Control.{Control}
 use Rattle.paper.specs.declared.Issued.{Issued}
 use Rattle.paper.specs.declared.Header.{Header}
 use Rattle.paper.specs.declared.Found.TheVariants.{At, Nothing}
-use Rattle.paper.specs.Ids.{fileId, pageId, noMoreIds}
+use Rattle.paper.specs.Ids.{file_id, page_id, no_more_ids}
 use Rattle.paper.specs.Lists.{lowest, count}
-use Rattle.paper.specs.Tables.{Bank, Slot, HS, PS, no_header, no_slot, live, headerFree, slotFree, headerExpired, slotExpired, slot_at, putHeader, withControl, withHeaders, putSlot}
+use Rattle.paper.specs.Tables.{Bank, Slot, HS, PS, no_header, no_slot, live, header_free, slot_free, header_expired, slot_expired, slot_at, put_header, with_control, with_headers, put_slot}
 
 pub data Try (S : Type 0) : Type 0 where
   gone : ℕ → S → Try S
@@ -18,7 +18,7 @@ pub data Try (S : Type 0) : Type 0 where
 
 -- issues next id and raises it by 1
 abbrev pub issued : Control → Issued
-issued c = record { id = fileId c.next; control = record { next = c.next + 1; clock = c.clock } }
+issued c = record { id = file_id c.next; control = record { next = c.next + 1; clock = c.clock } }
 
 abbrev pub named : FileId → Header → Header
 named id h = record {
@@ -32,54 +32,54 @@ named id h = record {
 }
 
 -- Replacing keeps the slot; .. issues next id and raises it by 1 in the same step; at next id 2,147,483,648 the answer is NoIds.
-unfoldable pub replaceHeader : ℕ → Header → HS → Try HS
-replaceHeader n h s =
+unfoldable pub replace_header : ℕ → Header → HS → Try HS
+replace_header n h s =
     let i = issued s.control in
-    cond (ltb s.control.next noMoreIds)
-    (gone i.id.0 (putHeader n (named i.id h) (withControl i.control s)))
+    cond (ltb s.control.next no_more_ids)
+    (gone i.id.0 (put_header n (named i.id h) (with_control i.control s)))
     (no 8)
 
 -- A create takes the lowest free slot. No free header slot is NoSpace; that comes before NoIds.
-unfoldable pub createHeader : ℕ → Header → HS → Try HS
-createHeader now h s = elim (lowest (headerFree now) s.headers) [ At n ↦ replaceHeader n h s | Nothing ↦ no 7 ]
+unfoldable pub create_header : ℕ → Header → HS → Try HS
+create_header now h s = elim (lowest (header_free now) s.headers) [ At n ↦ replace_header n h s | Nothing ↦ no 7 ]
 
 -- A header is found only by an id in use and live at now.
-abbrev pub hasId : ℕ → FileId → Header → Bool
-hasId now id h = live now h && eqb h.id.0 id.0
+abbrev pub has_id : ℕ → FileId → Header → Bool
+has_id now id h = live now h && eqb h.id.0 id.0
 
-unfoldable pub readHeader : ℕ → FileId → HS → Try HS
-readHeader now id s = elim (lowest (hasId now id) s.headers) [ At n ↦ gone n s | Nothing ↦ no 4 ]
+unfoldable pub read_header : ℕ → FileId → HS → Try HS
+read_header now id s = elim (lowest (has_id now id) s.headers) [ At n ↦ gone n s | Nothing ↦ no 4 ]
 
 -- A destroy writes zeros over the slot.
-unfoldable pub destroyHeader : ℕ → HS → Try HS
-destroyHeader n s = gone n (putHeader n no_header s)
+unfoldable pub destroy_header : ℕ → HS → Try HS
+destroy_header n s = gone n (put_header n no_header s)
 
 -- zero every header in use with expires <= now
-unfoldable pub scavengeHeaders : ℕ → HS → Try HS
-scavengeHeaders now s =
-    gone (count (headerExpired now) s.headers) (withHeaders (map (λ h. cond (headerExpired now h) no_header h) s.headers) s)
+unfoldable pub scavenge_headers : ℕ → HS → Try HS
+scavenge_headers now s =
+    gone (count (header_expired now) s.headers) (with_headers (map (λ h. cond (header_expired now h) no_header h) s.headers) s)
 
 -- Page Store
 
-abbrev pub fullSlot : List ℕ → ℕ → Slot
-fullSlot page e = record { used = true; spare = 0; expires = e; contents = page }
+abbrev pub full_slot : List ℕ → ℕ → Slot
+full_slot page e = record { used = true; spare = 0; expires = e; contents = page }
 
 -- A create takes the lowest free slot and writes all of it.
-unfoldable pub createPage : ℕ → List ℕ → ℕ → PS → Try PS
-createPage now page e ps = elim (lowest (slotFree now) ps) [ At n ↦ gone n (putSlot (pageId n) (fullSlot page e) ps) | Nothing ↦ no 7 ]
+unfoldable pub create_page : ℕ → List ℕ → ℕ → PS → Try PS
+create_page now page e ps = elim (lowest (slot_free now) ps) [ At n ↦ gone n (put_slot (page_id n) (full_slot page e) ps) | Nothing ↦ no 7 ]
 
-unfoldable pub readPage : PageId → PS → Try PS
-readPage p ps = gone p.0 ps
+unfoldable pub read_page : PageId → PS → Try PS
+read_page p ps = gone p.0 ps
 
-unfoldable pub destroyPage : Bank → PageId → PS → Try PS
-destroyPage b p ps = gone p.0 (putSlot p (no_slot b) ps)
+unfoldable pub destroy_page : Bank → PageId → PS → Try PS
+destroy_page b p ps = gone p.0 (put_slot p (no_slot b) ps)
 
 abbrev pub expiring : ℕ → Slot → Slot
 expiring e s = record { used = s.used; spare = s.spare; expires = e; contents = s.contents }
 
-unfoldable pub setPageExpiry : Bank → ℕ → PageId → PS → Try PS
-setPageExpiry b e p ps = gone p.0 (putSlot p (expiring e (slot_at b ps p)) ps)
+unfoldable pub set_page_expiry : Bank → ℕ → PageId → PS → Try PS
+set_page_expiry b e p ps = gone p.0 (put_slot p (expiring e (slot_at b ps p)) ps)
 
 -- the same for page slots
-unfoldable pub scavengePages : Bank → ℕ → PS → Try PS
-scavengePages b now ps = gone (count (slotExpired now) ps) (map (λ s. cond (slotExpired now s) (no_slot b) s) ps)
+unfoldable pub scavenge_pages : Bank → ℕ → PS → Try PS
+scavenge_pages b now ps = gone (count (slot_expired now) ps) (map (λ s. cond (slot_expired now s) (no_slot b) s) ps)

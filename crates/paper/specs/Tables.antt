@@ -4,7 +4,7 @@ use Rattle.paper.specs.declared.PageId.{PageId}
 use Rattle.paper.specs.declared.PageNum.{PageNum}
 use Rattle.paper.specs.declared.Control.{Control}
 use Rattle.paper.specs.declared.Header.{Header}
-use Rattle.paper.specs.Ids.{nullId, nullPageId}
+use Rattle.paper.specs.Ids.{null_id, null_page_id}
 use Rattle.paper.specs.Lists.{numbered, put_at}
 
 -- A bank of page slots: how many there are, and how many bytes of contents each has.
@@ -17,8 +17,8 @@ abbrev pub standard : Bank
 standard = record { slots = 256; size = 120 }
 
 -- 64 header slots
-abbrev pub headerSlots : ℕ
-headerSlots = 64
+abbrev pub header_slots : ℕ
+header_slots = 64
 
 pub record Slot : Type 0 where
   pub used : Bool
@@ -41,11 +41,11 @@ pub record Tables : Type 0 where
   pub ps : PS
 
 -- A record or slot not in use is all zero bits.
-abbrev pub noPages : List PageId
-noPages = replicate 16 nullPageId
+abbrev pub no_pages : List PageId
+no_pages = replicate 16 null_page_id
 
 abbrev pub no_header : Header
-no_header = record { used = false; id = nullId; owner = 0; created = 0; updated = 0; expires = 0; pages = noPages }
+no_header = record { used = false; id = null_id; owner = 0; created = 0; updated = 0; expires = 0; pages = no_pages }
 
 abbrev pub no_slot : Bank → Slot
 no_slot b = record { used = false; spare = 0; expires = 0; contents = replicate b.size 0 }
@@ -53,30 +53,30 @@ no_slot b = record { used = false; spare = 0; expires = 0; contents = replicate 
 -- Format: next id 1, clock 0 and zeros elsewhere
 abbrev pub fresh : Bank → Tables
 fresh b = record {
-  hs = record { control = record { next = 1; clock = 0 }; spare = 0; headers = replicate headerSlots no_header };
+  hs = record { control = record { next = 1; clock = 0 }; spare = 0; headers = replicate header_slots no_header };
   ps = replicate b.slots (no_slot b);
 }
 
 -- in use and expires <= now
-abbrev pub headerExpired : ℕ → Header → Bool
-headerExpired now h = h.used && leb h.expires now
+abbrev pub header_expired : ℕ → Header → Bool
+header_expired now h = h.used && leb h.expires now
 
-abbrev pub slotExpired : ℕ → Slot → Bool
-slotExpired now s = s.used && leb s.expires now
+abbrev pub slot_expired : ℕ → Slot → Bool
+slot_expired now s = s.used && leb s.expires now
 
 -- A header in use is live at now when expires > now.
 abbrev pub live : ℕ → Header → Bool
 live now h = h.used && ltb now h.expires
 
 -- A header or page slot is free at now when it is not in use or its expires <= now.
-abbrev pub headerFree : ℕ → Header → Bool
-headerFree now h = not h.used || leb h.expires now
+abbrev pub header_free : ℕ → Header → Bool
+header_free now h = not h.used || leb h.expires now
 
-abbrev pub slotFree : ℕ → Slot → Bool
-slotFree now s = not s.used || leb s.expires now
+abbrev pub slot_free : ℕ → Slot → Bool
+slot_free now s = not s.used || leb s.expires now
 
-abbrev pub clockOf : Tables → ℕ
-clockOf t = t.hs.control.clock
+abbrev pub clock_of : Tables → ℕ
+clock_of t = t.hs.control.clock
 
 abbrev pub header_at : HS → ℕ → Header
 header_at s n = numbered no_header s.headers n
@@ -85,21 +85,21 @@ header_at s n = numbered no_header s.headers n
 abbrev pub slot_at : Bank → PS → PageId → Slot
 slot_at b ps p = numbered (no_slot b) ps p.0
 
-abbrev pub getPageId : Header → PageNum → PageId
-getPageId h n = get_or h.pages n.0 nullPageId
+abbrev pub get_page_id : Header → PageNum → PageId
+get_page_id h n = get_or h.pages n.0 null_page_id
 
 -- The tables with one part changed.
-abbrev pub putHeader : ℕ → Header → HS → HS
-putHeader n h s = record { control = s.control; spare = s.spare; headers = put_at n h s.headers }
+abbrev pub put_header : ℕ → Header → HS → HS
+put_header n h s = record { control = s.control; spare = s.spare; headers = put_at n h s.headers }
 
-abbrev pub withControl : Control → HS → HS
-withControl c s = record { control = c; spare = s.spare; headers = s.headers }
+abbrev pub with_control : Control → HS → HS
+with_control c s = record { control = c; spare = s.spare; headers = s.headers }
 
-abbrev pub withHeaders : List Header → HS → HS
-withHeaders hs s = record { control = s.control; spare = s.spare; headers = hs }
+abbrev pub with_headers : List Header → HS → HS
+with_headers hs s = record { control = s.control; spare = s.spare; headers = hs }
 
-abbrev pub withClock : ℕ → Tables → Tables
-withClock now t = record { hs = withControl (record { next = t.hs.control.next; clock = now }) t.hs; ps = t.ps }
+abbrev pub with_clock : ℕ → Tables → Tables
+with_clock now t = record { hs = with_control (record { next = t.hs.control.next; clock = now }) t.hs; ps = t.ps }
 
-abbrev pub putSlot : PageId → Slot → PS → PS
-putSlot p s ps = put_at p.0 s ps
+abbrev pub put_slot : PageId → Slot → PS → PS
+put_slot p s ps = put_at p.0 s ps

@@ -6,28 +6,28 @@ use Rattle.paper.specs.declared.Header.{Header}
 use Rattle.paper.specs.declared.Found.{Found}
 use Rattle.paper.specs.declared.Found.TheVariants.{At, Nothing}
 use Rattle.paper.specs.Lists.{lowest, is_zero}
-use Rattle.paper.specs.Tables.{Bank, PS, Tables, clockOf, header_at, slot_at, getPageId}
-use Rattle.paper.specs.Stores.{hasId}
+use Rattle.paper.specs.Tables.{Bank, PS, Tables, clock_of, header_at, slot_at, get_page_id}
+use Rattle.paper.specs.Stores.{has_id}
 use Rattle.paper.specs.Answers.{Request}
 use Rattle.paper.specs.Requests.{Reply, facts_of}
 use Rattle.paper.specs.Plain.{File, Plain, passed, plain}
 
-abbrev pub pageShown : Bank → PS → PageId → Option (List ℕ)
-pageShown b ps p = cond (is_zero p.0) none (some (slot_at b ps p).contents)
+abbrev pub page_shown : Bank → PS → PageId → Option (List ℕ)
+page_shown b ps p = cond (is_zero p.0) none (some (slot_at b ps p).contents)
 
-abbrev pub fileShown : Bank → PS → Header → File
-fileShown b ps h = record { facts = facts_of h; pages = λ n. pageShown b ps (getPageId h n) }
+abbrev pub file_shown : Bank → PS → Header → File
+file_shown b ps h = record { facts = facts_of h; pages = λ n. page_shown b ps (get_page_id h n) }
 
-abbrev pub fileFound : Bank → Tables → Found → Option File
-fileFound b t (At n) = some (fileShown b t.ps (header_at t.hs n))
-fileFound b t Nothing = none
+abbrev pub file_found : Bank → Tables → Found → Option File
+file_found b t (At n) = some (file_shown b t.ps (header_at t.hs n))
+file_found b t Nothing = none
 
 -- clock, next id, and each live header with its pages' contents
 unfoldable pub view : Bank → Tables → Plain
 view b t = record {
-  clock = clockOf t;
+  clock = clock_of t;
   next = t.hs.control.next;
-  files = λ x. fileFound b t (lowest (hasId (clockOf t) x) t.hs.headers);
+  files = λ x. file_found b t (lowest (has_id (clock_of t) x) t.hs.headers);
 }
 
 -- it carries out what was answered Success and what was cut after its header step

@@ -1,6 +1,6 @@
 // The types that every layer shares, and the methods of these types. What they mean is in specs/.
 ghost use Rattle.std.specs.Prelude.{◌≡◌, ◌<◌};
-ghost use Rattle.paper.specs.Ids.{noMoreIds};
+ghost use Rattle.paper.specs.Ids.{no_more_ids};
 ghost use Rattle.paper.specs.Stores.{issued};
 
 // 1 to 2,147,483,647; 0 is NullId.
@@ -30,7 +30,7 @@ pub struct Issued {
 impl Control {
     // Issues next id and raises it by 1 in the same step.
     pub fn issue(mut self) -> Issued
-        requires { self.next < noMoreIds }
+        requires { self.next < no_more_ids }
         ensures { result ≡ issued self }
     {
         let n = self.next;

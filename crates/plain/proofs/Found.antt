@@ -9,20 +9,20 @@ use borrow.Author.Tests.{eqb-true, eqb-false, eq-eqb, ne_eqb}
 use lib.Dec.{eqb}
 use Rattle.paper.specs.declared.FileId.{FileId}
 use Rattle.paper.specs.declared.Header.{Header}
-use Rattle.paper.specs.Tables.{HS, Tables, clockOf, header_at}
-use Rattle.paper.specs.Stores.{hasId, readHeader}
-use Rattle.paper.specs.Steps.{step, ask, onHeaders, inHeaders}
-use Rattle.paper.specs.Requests.{headerIn, checkOwner}
-use Rattle.paper.specs.Plain.{File, Deed, onFile}
-use Rattle.paper.specs.View.{fileShown, view}
+use Rattle.paper.specs.Tables.{HS, Tables, clock_of, header_at}
+use Rattle.paper.specs.Stores.{has_id, read_header}
+use Rattle.paper.specs.Steps.{step, ask, on_headers, in_headers}
+use Rattle.paper.specs.Requests.{header_in, check_owner}
+use Rattle.paper.specs.Plain.{File, Deed, on_file}
+use Rattle.paper.specs.View.{file_shown, view}
 use Rattle.paper.proofs.Searched.{read_none, read_at}
 use Rattle.plain.proofs.Facts.{Facts}
-use Rattle.plain.proofs.Shown.{Hit, live-id, Look, look, files_of, files-at, Same}
+use Rattle.plain.proofs.Shown.{Hit, live_id, Look, look, files_of, files_at, Same}
 use Rattle.plain.proofs.Logic.{asks}
 use Rattle.plain.proofs.Phases.{Job, Phase, Shows, Anything, Makes, Before, tests, keeps}
 
-eqb-sym : (m n : ℕ) → eqb m n ≡ eqb n m
-eqb-sym m n = go (eqb m n) refl
+eqb_sym : (m n : ℕ) → eqb m n ≡ eqb n m
+eqb_sym m n = go (eqb m n) refl
   where
     go : (u : Bool) → eqb m n ≡ u → eqb m n ≡ eqb n m
     go true e = e ∙ sym (eq-eqb n m (sym (eqb-true m n e)))
@@ -34,35 +34,35 @@ pub record Found (j : Job) (id : FileId) (n : ℕ) (h : Header) (s : HS) : Type 
   pub hit : Hit j.now id h
 
 module _ {j : Job} {id : FileId} where
-  pub finds : Before j Anything (step (onHeaders (readHeader j.now id))) (λ n t. Hit j.now id (header_at t.hs n))
-  unfolding inHeaders
-  finds = keeps (onHeaders (readHeader j.now id)) (λ t f c x. rw (← c) (go t f (look t id)))
+  pub finds : Before j Anything (step (on_headers (read_header j.now id))) (λ n t. Hit j.now id (header_at t.hs n))
+  unfolding in_headers
+  finds = keeps (on_headers (read_header j.now id)) (λ t f c x. rw (← c) (go t f (look t id)))
     where
-      go : (t : Tables) → Facts j.bank t → Look t id → Makes (λ n t'. Same j.bank t t' × Hit (clockOf t) id (header_at t'.hs n)) (onHeaders (readHeader (clockOf t) id) t)
-      go t f (Look.at n e q) = rw (read_at (clockOf t) t.hs id n e) (record { facts = f; view = refl }, q)
-      go t f (Look.nowhere e h) = rw (read_none (clockOf t) t.hs id e) (omega arith, omega arith)
+      go : (t : Tables) → Facts j.bank t → Look t id → Makes (λ n t'. Same j.bank t t' × Hit (clock_of t) id (header_at t'.hs n)) (on_headers (read_header (clock_of t) id) t)
+      go t f (Look.at n e q) = rw (read_at (clock_of t) t.hs id n e) (record { facts = f; view = refl }, q)
+      go t f (Look.nowhere e h) = rw (read_none (clock_of t) t.hs id e) (omega arith, omega arith)
 
-  pub reads-header : (n : ℕ) → Before j (λ t. Hit j.now id (header_at t.hs n)) (ask (headerIn n)) (λ h t. Found j id n h t.hs)
-  reads-header n = asks (headerIn n) (λ u t s. record { past = s.past; shows = s.shows; also = record { at = refl; hit = s.also } })
+  pub reads_header : (n : ℕ) → Before j (λ t. Hit j.now id (header_at t.hs n)) (ask (header_in n)) (λ h t. Found j id n h t.hs)
+  reads_header n = asks (header_in n) (λ u t s. record { past = s.past; shows = s.shows; also = record { at = refl; hit = s.also } })
 
 -- .. and the client's
 abbrev pub Mine : Job → FileId → ℕ → ℕ → Header → HS → Type 0
 Mine j id client n h s = Found j id n h s × (eqb h.owner client ≡ true)
 
-pub owns : {j : Job} {id : FileId} {n : ℕ} (client : ℕ) (h : Header) → Before j (λ t. Found j id n h t.hs) (checkOwner client h) (λ a t. Mine j id client n h t.hs)
+pub owns : {j : Job} {id : FileId} {n : ℕ} (client : ℕ) (h : Header) → Before j (λ t. Found j id n h t.hs) (check_owner client h) (λ a t. Mine j id client n h t.hs)
 owns client h = tests (eqb h.owner client) 5 (omega arith, omega arith)
 
 module _ {j : Job} {p : Phase} {id : FileId} {n : ℕ} {h : Header} (t : Tables) (s : Shows j p t) (w : Found j id n h t.hs) where
-  pub found-hit : Hit (clockOf t) id (header_at t.hs n)
-  found-hit = rw (s.clock, w.at) w.hit
+  pub found_hit : Hit (clock_of t) id (header_at t.hs n)
+  found_hit = rw (s.clock, w.at) w.hit
 
   -- the plain machine goes on with the file of that header
-  pub on-found : (d : File → Deed) → onFile id (view j.bank t) d ≡ d (fileShown j.bank t.ps h)
+  pub on_found : (d : File → Deed) → on_file id (view j.bank t) d ≡ d (file_shown j.bank t.ps h)
   unfolding view
-  on-found d =
-      let there : files_of j.bank t id ≡ some (fileShown j.bank t.ps (header_at t.hs n)) = files-at j.bank t id n s.facts found-hit in
-      rw (there, onFile, w.at)
+  on_found d =
+      let there : files_of j.bank t id ≡ some (file_shown j.bank t.ps (header_at t.hs n)) = files_at j.bank t id n s.facts found_hit in
+      rw (there, on_file, w.at)
 
   -- the files but that one
-  pub without-found : (x : FileId) → cond (hasId (clockOf t) x (header_at t.hs n)) none (files_of j.bank t x) ≡ cond (eqb x.0 id.0) none (files_of j.bank t x)
-  without-found x = rw (live-id (clockOf t) x (header_at t.hs n) found-hit.live, found-hit.same, eqb-sym id.0 x.0)
+  pub without_found : (x : FileId) → cond (has_id (clock_of t) x (header_at t.hs n)) none (files_of j.bank t x) ≡ cond (eqb x.0 id.0) none (files_of j.bank t x)
+  without_found x = rw (live_id (clock_of t) x (header_at t.hs n) found_hit.live, found_hit.same, eqb_sym id.0 x.0)

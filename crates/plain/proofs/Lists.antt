@@ -11,40 +11,40 @@ use lib.ListN.{length, get_or, set, replicate, length-set, get_or-map, get_or-eq
 use lib.Seq.{get_or-set_same, get_or-set_other}
 use Rattle.paper.specs.declared.Found.TheVariants.{At, Nothing}
 use Rattle.paper.proofs.Tests.{both}
-use Rattle.paper.specs.Lists.{all, lowestFrom, lowest, numbered, put_at}
+use Rattle.paper.specs.Lists.{all, lowest_from, lowest, numbered, put_at}
 
 pub both_true : (a c : Bool) → a ≡ true → c ≡ true → a && c ≡ true
 both_true a c p q = rw p q
 
 module _ {A : Type 0} (f : A → Bool) (d : A) where
   -- a test that passes at every element passes at every index, where it passes at the default
-  pub all-anywhere : f d ≡ true → (xs : List A) → all f xs ≡ true → (i : ℕ) → f (get_or xs i d) ≡ true
-  all-anywhere z [] e i = z
-  all-anywhere z (x ∷ xs) e zero = (both (f x) (all f xs) e).0
-  all-anywhere z (x ∷ xs) e (suc i) = all-anywhere z xs (both (f x) (all f xs) e).1 i
+  pub all_anywhere : f d ≡ true → (xs : List A) → all f xs ≡ true → (i : ℕ) → f (get_or xs i d) ≡ true
+  all_anywhere z [] e i = z
+  all_anywhere z (x ∷ xs) e zero = (both (f x) (all f xs) e).0
+  all_anywhere z (x ∷ xs) e (suc i) = all_anywhere z xs (both (f x) (all f xs) e).1 i
 
-  pub all-by : (xs : List A) → ((i : ℕ) → f (get_or xs i d) ≡ true) → all f xs ≡ true
-  all-by [] g = refl
-  all-by (x ∷ xs) g = both_true (f x) (all f xs) (g 0) (all-by xs (λ i. g (suc i)))
+  pub all_by : (xs : List A) → ((i : ℕ) → f (get_or xs i d) ≡ true) → all f xs ≡ true
+  all_by [] g = refl
+  all_by (x ∷ xs) g = both_true (f x) (all f xs) (g 0) (all_by xs (λ i. g (suc i)))
 
-  pub all-numbered : f d ≡ true → (xs : List A) → all f xs ≡ true → (n : ℕ) → f (numbered d xs n) ≡ true
+  pub all_numbered : f d ≡ true → (xs : List A) → all f xs ≡ true → (n : ℕ) → f (numbered d xs n) ≡ true
   unfolding numbered
-  all-numbered z xs e zero = z
-  all-numbered z xs e (suc i) = all-anywhere z xs e i
+  all_numbered z xs e zero = z
+  all_numbered z xs e (suc i) = all_anywhere z xs e i
 
-  pub numbered-all : (xs : List A) → ((n : ℕ) → f (numbered d xs n) ≡ true) → all f xs ≡ true
+  pub numbered_all : (xs : List A) → ((n : ℕ) → f (numbered d xs n) ≡ true) → all f xs ≡ true
   unfolding numbered
-  numbered-all xs g = all-by xs (λ i. g (suc i))
+  numbered_all xs g = all_by xs (λ i. g (suc i))
 
   -- what a search finds: the first that passes, or that none does
   data SearchFrom (k : ℕ) (xs : List A) : Type 0 where
-    found : (i : ℕ) → lowestFrom f k xs ≡ At (k + i) → i < length xs → f (get_or xs i d) ≡ true → SearchFrom k xs
-    missed : lowestFrom f k xs ≡ Nothing → ((i : ℕ) → i < length xs → f (get_or xs i d) ≡ false) → SearchFrom k xs
+    found : (i : ℕ) → lowest_from f k xs ≡ At (k + i) → i < length xs → f (get_or xs i d) ≡ true → SearchFrom k xs
+    missed : lowest_from f k xs ≡ Nothing → ((i : ℕ) → i < length xs → f (get_or xs i d) ≡ false) → SearchFrom k xs
 
-  search-from : (k : ℕ) (xs : List A) → SearchFrom k xs
-  unfolding lowestFrom
-  search-from k [] = missed refl (λ i h. absurd (omega arith))
-  search-from k (x ∷ xs) = go (f x) refl (search-from (suc k) xs)
+  search_from : (k : ℕ) (xs : List A) → SearchFrom k xs
+  unfolding lowest_from
+  search_from k [] = missed refl (λ i h. absurd (omega arith))
+  search_from k (x ∷ xs) = go (f x) refl (search_from (suc k) xs)
     where
       go : (b : Bool) → f x ≡ b → SearchFrom (suc k) xs → SearchFrom k (x ∷ xs)
       go true e r = let z : k ≡ k + 0 = omega arith in found 0 (rw e (λ i. At (z i))) (omega arith) e
@@ -61,9 +61,9 @@ module _ {A : Type 0} (f : A → Bool) (d : A) where
     found : (n : ℕ) → lowest f xs ≡ At n → 1 ≤ n → n ≤ length xs → f (numbered d xs n) ≡ true → Search xs
     missed : lowest f xs ≡ Nothing → ((n : ℕ) → 1 ≤ n → n ≤ length xs → f (numbered d xs n) ≡ false) → Search xs
 
-  pub search-of : (xs : List A) → Search xs
+  pub search_of : (xs : List A) → Search xs
   unfolding numbered
-  search-of xs = go (search-from 1 xs)
+  search_of xs = go (search_from 1 xs)
     where
       go : SearchFrom 1 xs → Search xs
       go (SearchFrom.found i g h p) =
@@ -77,47 +77,47 @@ module _ {A : Type 0} (f : A → Bool) (d : A) where
 
 module _ {A : Type 0} (d : A) (xs : List A) where
   -- what is not the default stands at a number of the list
-  pub numbered-in : (P : A → Type 0) (n : ℕ) → (P d → ⊥) → P (numbered d xs n) → (1 ≤ n) × (n ≤ length xs)
+  pub numbered_in : (P : A → Type 0) (n : ℕ) → (P d → ⊥) → P (numbered d xs n) → (1 ≤ n) × (n ≤ length xs)
   unfolding numbered
-  numbered-in P zero no-d p = absurd (no-d p)
-  numbered-in P (suc i) no-d p = go (dec_le (suc i) (length xs))
+  numbered_in P zero no-d p = absurd (no-d p)
+  numbered_in P (suc i) no-d p = go (dec_le (suc i) (length xs))
     where
       go : Dec (suc i ≤ length xs) → (1 ≤ suc i) × (suc i ≤ length xs)
       go (yes h) = (omega arith, h)
       go (no h) = absurd (no-d (rw (get_or-eq_default xs d {n = i} (omega arith)) at p))
 
   -- one element changed, seen from every number
-  pub put-else : (n : ℕ) (x : A) (j : ℕ) → j ≢ n → numbered d (put_at n x xs) j ≡ numbered d xs j
+  pub put_else : (n : ℕ) (x : A) (j : ℕ) → j ≢ n → numbered d (put_at n x xs) j ≡ numbered d xs j
   unfolding numbered put_at
-  put-else zero x j ne = refl
-  put-else (suc k) x zero ne = refl
-  put-else (suc k) x (suc i) ne = get_or-set_other xs k i x d (λ e. ne (omega arith))
+  put_else zero x j ne = refl
+  put_else (suc k) x zero ne = refl
+  put_else (suc k) x (suc i) ne = get_or-set_other xs k i x d (λ e. ne (omega arith))
 
-  pub put-here : (n : ℕ) (x : A) → 1 ≤ n → n ≤ length xs → numbered d (put_at n x xs) n ≡ x
+  pub put_here : (n : ℕ) (x : A) → 1 ≤ n → n ≤ length xs → numbered d (put_at n x xs) n ≡ x
   unfolding numbered put_at
-  put-here zero x lo hi = absurd (omega arith)
-  put-here (suc k) x lo hi = get_or-set_same xs k x d hi
+  put_here zero x lo hi = absurd (omega arith)
+  put_here (suc k) x lo hi = get_or-set_same xs k x d hi
 
   module _ (n : ℕ) (x : A) (lo : 1 ≤ n) (hi : n ≤ length xs) where
-    pub at-put : (P : ℕ → A → Type 0) → P n x → ((j : ℕ) → j ≢ n → P j (numbered d xs j)) → (j : ℕ) → P j (numbered d (put_at n x xs) j)
-    at-put P here else j = go (ℕ_discrete j n)
+    pub at_put : (P : ℕ → A → Type 0) → P n x → ((j : ℕ) → j ≢ n → P j (numbered d xs j)) → (j : ℕ) → P j (numbered d (put_at n x xs) j)
+    at_put P here else j = go (ℕ_discrete j n)
       where
         go : Dec (j ≡ n) → P j (numbered d (put_at n x xs) j)
-        go (yes e) = rw (e, put-here n x lo hi) here
-        go (no ne) = rw (put-else n x j ne) (else j ne)
+        go (yes e) = rw (e, put_here n x lo hi) here
+        go (no ne) = rw (put_else n x j ne) (else j ne)
 
-    pub at-put₂ : (R : ℕ → ℕ → A → A → Type 0) → R n n x x → ((j : ℕ) → j ≢ n → R n j x (numbered d xs j))
+    pub at_put₂ : (R : ℕ → ℕ → A → A → Type 0) → R n n x x → ((j : ℕ) → j ≢ n → R n j x (numbered d xs j))
         → ((j : ℕ) → j ≢ n → R j n (numbered d xs j) x) → ((j k : ℕ) → R j k (numbered d xs j) (numbered d xs k))
         → (j k : ℕ) → R j k (numbered d (put_at n x xs) j) (numbered d (put_at n x xs) k)
-    at-put₂ R nn nj jn jk =
-        at-put (λ j y. (k : ℕ) → R j k y (numbered d (put_at n x xs) k))
-        (at-put (λ k z. R n k x z) nn nj)
-        (λ j ne. at-put (λ k z. R j k (numbered d xs j) z) (jn j ne) (λ k _. jk j k))
+    at_put₂ R nn nj jn jk =
+        at_put (λ j y. (k : ℕ) → R j k y (numbered d (put_at n x xs) k))
+        (at_put (λ k z. R n k x z) nn nj)
+        (λ j ne. at_put (λ k z. R j k (numbered d xs j) z) (jn j ne) (λ k _. jk j k))
 
-pub length-put : {A : Type 0} (n : ℕ) (x : A) (xs : List A) → length (put_at n x xs) ≡ length xs
+pub length_put : {A : Type 0} (n : ℕ) (x : A) (xs : List A) → length (put_at n x xs) ≡ length xs
 unfolding put_at
-length-put zero x xs = refl
-length-put (suc k) x xs = length-set xs k x
+length_put zero x xs = refl
+length_put (suc k) x xs = length-set xs k x
 
 -- the same by index
 pub at_set : {A : Type 0} (d : A) (xs : List A) (i : ℕ) (x : A) → i < length xs → (P : ℕ → A → Type 0) → P i x → ((j : ℕ) → j ≢ i → P j (get_or xs j d))

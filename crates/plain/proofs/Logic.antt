@@ -8,11 +8,11 @@ use lib.ListN.{get_or}
 use Rattle.paper.specs.declared.PageId.{PageId}
 use Rattle.paper.specs.declared.Step.{Step}
 use Rattle.paper.specs.declared.Step.TheVariants.{Gone, Refused, Cut}
-use Rattle.paper.specs.Ids.{pageId, nullPageId}
+use Rattle.paper.specs.Ids.{page_id, null_page_id}
 use Rattle.paper.specs.Tables.{HS, Tables}
 use Rattle.paper.specs.Stores.{Try, gone, no}
 use Rattle.paper.specs.Steps
-use Rattle.paper.specs.Steps.{Run, on, end, Steps, State, follow, give, refuse, ask, check, attempt, attempted, tried, settle, step, passOver, cleanup, marked, headerStep, onHeaders, eachPage, stepped}
+use Rattle.paper.specs.Steps.{Run, on, end, Steps, State, follow, give, refuse, ask, check, attempt, attempted, tried, settle, step, pass_over, cleanup, marked, header_step, on_headers, each_page, stepped}
 
 -- what is claimed of a request where it stands: of whether its header step has gone through, and of the tables
 abbrev pub Claim : Type 1
@@ -108,28 +108,28 @@ module _ {E : ℕ → Claim} where
 
       -- a refusal is passed over
       pub cleanups : ((u : Bool) (t : Tables) → P u t → Q 0 u t) → Does E P (cleanup f) Q
-      unfolding cleanup passOver
+      unfolding cleanup pass_over
       cleanups over = record {
-        run = λ os s p. outcomes (Ends E Q) passOver f os s (λ n t e. through s.past s.tables n t p e) (λ a e. over s.past s.tables p)
+        run = λ os s p. outcomes (Ends E Q) pass_over f os s (λ n t e. through s.past s.tables n t p e) (λ a e. over s.past s.tables p)
             (over s.past s.tables p) (cut s.past s.tables p);
       }
 
     -- the header step is a step after which the request has passed it
-    pub header-steps : (f : HS → Try HS) → Does E P (step (onHeaders f)) (λ n u t. Q n true t) → Does E P (headerStep f) Q
-    unfolding headerStep marked
-    header-steps f d = record { run = λ os s p. go (step (onHeaders f) os s) (d.run os s p) }
+    pub header_steps : (f : HS → Try HS) → Does E P (step (on_headers f)) (λ n u t. Q n true t) → Does E P (header_step f) Q
+    unfolding header_step marked
+    header_steps f d = record { run = λ os s p. go (step (on_headers f) os s) (d.run os s p) }
       where
         go : (r : Run ℕ) → Ends E (λ n u t. Q n true t) r → Ends E Q (marked r)
         go (on n s) p = p
         go (end n s) p = p
 
   -- each page id but 0 in its turn; P says what holds with these page ids still to come
-  pub each : (P : List PageId → Claim) (f : PageId → Steps ℕ) → ((k : ℕ) (ps : List PageId) → Does E (P (pageId (suc k) ∷ ps)) (f (pageId (suc k))) (λ n. P ps))
-      → ((ps : List PageId) (u : Bool) (t : Tables) → P (nullPageId ∷ ps) u t → P ps u t) → (ps : List PageId) → Does E (P ps) (eachPage f ps) (λ n. P [])
-  unfolding eachPage
+  pub each : (P : List PageId → Claim) (f : PageId → Steps ℕ) → ((k : ℕ) (ps : List PageId) → Does E (P (page_id (suc k) ∷ ps)) (f (page_id (suc k))) (λ n. P ps))
+      → ((ps : List PageId) (u : Bool) (t : Tables) → P (null_page_id ∷ ps) u t → P ps u t) → (ps : List PageId) → Does E (P ps) (each_page f ps) (λ n. P [])
+  unfolding each_page
   each P f turn skip [] = gives 0 (λ u t p. p)
   each P f turn skip (p ∷ ps) = go p.0 (each P f turn skip ps)
     where
-      go : (k : ℕ) → Does E (P ps) (eachPage f ps) (λ n. P []) → Does E (P (pageId k ∷ ps)) (eachPage f (pageId k ∷ ps)) (λ n. P [])
+      go : (k : ℕ) → Does E (P ps) (each_page f ps) (λ n. P []) → Does E (P (page_id k ∷ ps)) (each_page f (page_id k ∷ ps)) (λ n. P [])
       go zero r = from (skip ps) r
       go (suc k) r = turn k ps >> r

@@ -5,15 +5,15 @@ use Prim.Native.Nat.{ℕ, ◌≤◌}
 use mathlib.Core.Path.{◌≡◌, refl, ap, subst, subst⁻¹, ◌∙◌}
 use mathlib.Core.Bool.{Bool, true, false}
 use native.Mathlib.Omega.{arith}
-use Rattle.paper.specs.Tables.{Bank, HS, Tables, clockOf}
+use Rattle.paper.specs.Tables.{Bank, HS, Tables, clock_of}
 use Rattle.paper.specs.Stores.{Try, gone, no}
-use Rattle.paper.specs.Steps.{Steps, ask, check, step, cleanup, headerStep, onHeaders}
-use Rattle.paper.specs.Answers.{Request, Gift, nothing, anId, facts, counts, contents}
+use Rattle.paper.specs.Steps.{Steps, ask, check, step, cleanup, header_step, on_headers}
+use Rattle.paper.specs.Answers.{Request, Gift, nothing, an_id, facts, counts, contents}
 use Rattle.paper.specs.Plain.{Plain, does, deed}
 use Rattle.paper.specs.View.{view}
 use Rattle.plain.proofs.Facts.{Facts}
 use Rattle.plain.proofs.Shown.{Same}
-use Rattle.plain.proofs.Logic.{Claim, Does, asks, checks, steps, cleanups, header-steps}
+use Rattle.plain.proofs.Logic.{Claim, Does, asks, checks, steps, cleanups, header_steps}
 
 -- a request, its time, and the plain machine once the time is taken
 pub record Job : Type 0 where
@@ -26,9 +26,9 @@ pub data Phase : Type 0 where
   waits : Phase
   done : Gift → Phase
 
-abbrev pub pastIn : Phase → Bool
-pastIn waits = false
-pastIn (done g) = true
+abbrev pub past_in : Phase → Bool
+past_in waits = false
+past_in (done g) = true
 
 -- the machine v is the one to be shown
 abbrev pub Right : Job → Phase → Plain → Type 0
@@ -37,11 +37,11 @@ Right j (done g) v = deed j.request j.machine ≡ does g v
 
 pub record Shows (j : Job) (p : Phase) (t : Tables) : Type 0 where
   pub facts : Facts j.bank t
-  pub clock : clockOf t ≡ j.now
+  pub clock : clock_of t ≡ j.now
   pub right : Right j p (view j.bank t)
 
 pub record Stands (j : Job) (p : Phase) (X : Tables → Type 0) (u : Bool) (t : Tables) : Type 0 where
-  pub past : u ≡ pastIn p
+  pub past : u ≡ past_in p
   pub shows : Shows j p t
   pub also : X t
 
@@ -61,7 +61,7 @@ pub record Ended (j : Job) (n : ℕ) (u : Bool) (t : Tables) : Type 0 where
 -- the machine knows no counts
 abbrev pub plainly : Gift → Gift
 plainly nothing = nothing
-plainly (anId i) = anId i
+plainly (an_id i) = an_id i
 plainly (facts f) = facts f
 plainly (counts c) = nothing
 plainly (contents c) = contents c
@@ -76,11 +76,11 @@ Makes Q (no a) = MayEnd waits a
 
 -- a step after which the tables show the same
 abbrev pub Keeps : Job → (Tables → Try Tables) → (Tables → Type 0) → (ℕ → Tables → Type 0) → Type 0
-Keeps j f X Y = (t : Tables) → Facts j.bank t → clockOf t ≡ j.now → X t → Makes (λ n t'. Same j.bank t t' × Y n t') (f t)
+Keeps j f X Y = (t : Tables) → Facts j.bank t → clock_of t ≡ j.now → X t → Makes (λ n t'. Same j.bank t t' × Y n t') (f t)
 
 module _ {j : Job} {p : Phase} where
-  pub ended-in : {X : Tables → Type 0} {n : ℕ} (u : Bool) (t : Tables) → MayEnd p n → Stands j p X u t → Ended j n u t
-  ended-in u t m s = record { phase = p; may = m; stands = record { past = s.past; shows = s.shows; also = tt } }
+  pub ended_in : {X : Tables → Type 0} {n : ℕ} (u : Bool) (t : Tables) → MayEnd p n → Stands j p X u t → Ended j n u t
+  ended_in u t m s = record { phase = p; may = m; stands = record { past = s.past; shows = s.shows; also = tt } }
 
   -- a claim may say less
   pub weaker : {X Y : Tables → Type 0} → ((t : Tables) → Shows j p t → X t → Y t) → (u : Bool) (t : Tables) → Stands j p X u t → Stands j p Y u t
@@ -99,21 +99,21 @@ module _ {j : Job} {p : Phase} where
   }
 
 -- the outcome of a step: in either phase it may be cut, and refused where the request waits
-ended-cut : {j : Job} {X : Tables → Type 0} (p : Phase) (u : Bool) (t : Tables) → Stands j p X u t → Ended j 10 u t
-ended-cut waits u t s = ended-in u t (omega arith, omega arith) s
-ended-cut (done g) u t s = ended-in u t refl s
+ended_cut : {j : Job} {X : Tables → Type 0} (p : Phase) (u : Bool) (t : Tables) → Stands j p X u t → Ended j 10 u t
+ended_cut waits u t s = ended_in u t (omega arith, omega arith) s
+ended_cut (done g) u t s = ended_in u t refl s
 
-ended-refused : {j : Job} {X : Tables → Type 0} (u : Bool) (t : Tables) → Stands j waits X u t → Ended j 9 u t
-ended-refused u t s = ended-in u t (omega arith, omega arith) s
+ended_refused : {j : Job} {X : Tables → Type 0} (u : Bool) (t : Tables) → Stands j waits X u t → Ended j 9 u t
+ended_refused u t s = ended_in u t (omega arith, omega arith) s
 
 -- steps before the header step: X is known before them, Y after them
 abbrev pub Before : {A : Type 0} → Job → (Tables → Type 0) → Steps A → (A → Tables → Type 0) → Type 0
 Before j X m Y = Does (Ended j) (Stands j waits X) m (λ a. Stands j waits (Y a))
 
 -- the machine of a request that waits is the one that the tables show
-pub carried-by : {j : Job} {g : Gift} {t : Tables} (t' : Tables) → Shows j waits t → Facts j.bank t' → clockOf t' ≡ clockOf t
+pub carried_by : {j : Job} {g : Gift} {t : Tables} (t' : Tables) → Shows j waits t → Facts j.bank t' → clock_of t' ≡ clock_of t
     → deed j.request (view j.bank t) ≡ does g (view j.bank t') → Shows j (done g) t'
-carried-by {j} {g} t' s f c e = record {
+carried_by {j} {g} t' s f c e = record {
   facts = f;
   clock = c ∙ s.clock;
   right = subst (λ (m : Plain). deed j.request m ≡ does g (view j.bank t')) s.right e;
@@ -122,7 +122,7 @@ carried-by {j} {g} t' s f c e = record {
 module _ {j : Job} {X : Tables → Type 0} where
   -- no step: a test, and what the tables hold
   pub tests : (c : Bool) (a : ℕ) → MayEnd waits a → Before j X (check c a) (λ n t. X t × (c ≡ true))
-  tests c a m = checks c a (λ e u t s. record { past = s.past; shows = s.shows; also = (s.also, e) }) (λ e u t s. ended-in u t m s)
+  tests c a m = checks c a (λ e u t s. record { past = s.past; shows = s.shows; also = (s.also, e) }) (λ e u t s. ended_in u t m s)
 
   pub learns : {A : Type 0} (f : Tables → A) → Before j X (ask f) (λ a t. X t × (a ≡ f t))
   learns f = asks f (λ u t s. record { past = s.past; shows = s.shows; also = (s.also, refl) })
@@ -137,22 +137,22 @@ module _ {j : Job} {X : Tables → Type 0} where
   -- a step before the header step
   pub keeps : {Y : ℕ → Tables → Type 0} (f : Tables → Try Tables) → Keeps j f X Y → Before j X (step f) Y
   keeps {Y} f k =
-      steps f (kept_by Y f k) (ended-cut waits)
-      (λ u t a s e. ended-in u t (subst (Makes (λ n t'. Same j.bank t t' × Y n t')) e (k t s.shows.facts s.shows.clock s.also)) s) ended-refused
+      steps f (kept_by Y f k) (ended_cut waits)
+      (λ u t a s e. ended_in u t (subst (Makes (λ n t'. Same j.bank t t' × Y n t')) e (k t s.shows.facts s.shows.clock s.also)) s) ended_refused
 
   -- a step after it
   pub cleans : {p : Phase} {Y : Tables → Type 0} (f : Tables → Try Tables) → Keeps j f X (λ n. Y) → ((t : Tables) → X t → Y t)
       → Does (Ended j) (Stands j p X) (cleanup f) (λ n. Stands j p Y)
-  cleans {p} {Y} f k less = cleanups f (kept_by (λ n. Y) f k) (ended-cut p) (weaker (λ t _. less t))
+  cleans {p} {Y} f k less = cleanups f (kept_by (λ n. Y) f k) (ended_cut p) (weaker (λ t _. less t))
 
   -- the header step, shown at the time of the tables
-  pub carries-out : {Y : ℕ → Tables → Type 0} (f : ℕ → HS → Try HS) (g : ℕ → Gift)
-      → ((t : Tables) → Shows j waits t → X t → Makes (λ n t'. Shows j (done (g n)) t' × Y n t') (onHeaders (f (clockOf t)) t))
-      → Does (Ended j) (Stands j waits X) (headerStep (f j.now)) (λ n. Stands j (done (g n)) (Y n))
-  carries-out {Y} f g k =
-      header-steps (f j.now) (steps (onHeaders (f j.now)) (λ u t n t' s e. record { past = refl; shows = (made t s e).0; also = (made t s e).1 }) (ended-cut waits)
-      (λ u t a s e. ended-in u t (made t s e) s) ended-refused)
+  pub carries_out : {Y : ℕ → Tables → Type 0} (f : ℕ → HS → Try HS) (g : ℕ → Gift)
+      → ((t : Tables) → Shows j waits t → X t → Makes (λ n t'. Shows j (done (g n)) t' × Y n t') (on_headers (f (clock_of t)) t))
+      → Does (Ended j) (Stands j waits X) (header_step (f j.now)) (λ n. Stands j (done (g n)) (Y n))
+  carries_out {Y} f g k =
+      header_steps (f j.now) (steps (on_headers (f j.now)) (λ u t n t' s e. record { past = refl; shows = (made t s e).0; also = (made t s e).1 }) (ended_cut waits)
+      (λ u t a s e. ended_in u t (made t s e) s) ended_refused)
     where
-      made : {u : Bool} {r : Try Tables} (t : Tables) → Stands j waits X u t → onHeaders (f j.now) t ≡ r → Makes (λ n t'. Shows j (done (g n)) t' × Y n t') r
+      made : {u : Bool} {r : Try Tables} (t : Tables) → Stands j waits X u t → on_headers (f j.now) t ≡ r → Makes (λ n t'. Shows j (done (g n)) t' × Y n t') r
       made t s e =
-          subst (Makes (λ n t'. Shows j (done (g n)) t' × Y n t')) (ap (λ c. onHeaders (f c) t) s.shows.clock ∙ e) (k t s.shows s.also)
+          subst (Makes (λ n t'. Shows j (done (g n)) t' × Y n t')) (ap (λ c. on_headers (f c) t) s.shows.clock ∙ e) (k t s.shows s.also)

@@ -3,18 +3,18 @@
 use Rattle.paper.specs.Tables.{Bank}
 use Rattle.paper.specs.Answers.{Request, Create, Write, Read, Info, Destroy, SetExpiry, Scavenge}
 use Rattle.plain.specs.Demand.{NothingLost}
-use Rattle.plain.proofs.Reading.{info-loses-nothing, read-loses-nothing}
-use Rattle.plain.proofs.Create.{create-loses-nothing}
-use Rattle.plain.proofs.Write.{write-loses-nothing}
-use Rattle.plain.proofs.Destroy.{destroy-loses-nothing}
-use Rattle.plain.proofs.SetExpiry.{set-expiry-loses-nothing}
-use Rattle.plain.proofs.Scavenge.{scavenge-loses-nothing}
+use Rattle.plain.proofs.Reading.{info_loses_nothing, read_loses_nothing}
+use Rattle.plain.proofs.Create.{create_loses_nothing}
+use Rattle.plain.proofs.Write.{write_loses_nothing}
+use Rattle.plain.proofs.Destroy.{destroy_loses_nothing}
+use Rattle.plain.proofs.SetExpiry.{set_expiry_loses_nothing}
+use Rattle.plain.proofs.Scavenge.{scavenge_loses_nothing}
 
-pub nothing-lost : (b : Bank) (q : Request) → NothingLost b q
-nothing-lost b (Create client number page expires) = create-loses-nothing b client number page expires
-nothing-lost b (Write client id number page) = write-loses-nothing b client id number page
-nothing-lost b (Read id number lent) = read-loses-nothing b id number lent
-nothing-lost b (Info id) = info-loses-nothing b id
-nothing-lost b (Destroy client id) = destroy-loses-nothing b client id
-nothing-lost b (SetExpiry client id expires) = set-expiry-loses-nothing b client id expires
-nothing-lost b Scavenge = scavenge-loses-nothing b
+pub nothing_lost : (b : Bank) (q : Request) → NothingLost b q
+nothing_lost b (Create client number page expires) = create_loses_nothing b client number page expires
+nothing_lost b (Write client id number page) = write_loses_nothing b client id number page
+nothing_lost b (Read id number lent) = read_loses_nothing b id number lent
+nothing_lost b (Info id) = info_loses_nothing b id
+nothing_lost b (Destroy client id) = destroy_loses_nothing b client id
+nothing_lost b (SetExpiry client id expires) = set_expiry_loses_nothing b client id expires
+nothing_lost b Scavenge = scavenge_loses_nothing b

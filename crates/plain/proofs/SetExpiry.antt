@@ -10,26 +10,26 @@ use borrow.Author.Tests.{leb-true, leb-false}
 use lib.Dec.{eqb, leb}
 use Rattle.paper.specs.declared.FileId.{FileId}
 use Rattle.paper.specs.declared.Header.{Header}
-use Rattle.paper.specs.Ids.{fileId, later}
-use Rattle.paper.specs.Tables.{Bank, Tables, no_header, clockOf, header_at}
-use Rattle.paper.specs.Stores.{replaceHeader, setPageExpiry}
+use Rattle.paper.specs.Ids.{file_id, later}
+use Rattle.paper.specs.Tables.{Bank, Tables, no_header, clock_of, header_at}
+use Rattle.paper.specs.Stores.{replace_header, set_page_expiry}
 use Rattle.paper.specs.Steps
-use Rattle.paper.specs.Steps.{step, cleanup, headerStep, eachPage, give, onHeaders, onPages}
-use Rattle.paper.specs.Answers.{SetExpiry, anId}
-use Rattle.paper.specs.Requests.{steps_of, setExpiry, setHeaderExpiry}
-use Rattle.paper.specs.Plain.{deed, plainSetExpiry}
+use Rattle.paper.specs.Steps.{step, cleanup, header_step, each_page, give, on_headers, on_pages}
+use Rattle.paper.specs.Answers.{SetExpiry, an_id}
+use Rattle.paper.specs.Requests.{steps_of, set_expiry, set_header_expiry}
+use Rattle.paper.specs.Plain.{deed, plain_set_expiry}
 use Rattle.paper.specs.View.{view}
 use Rattle.plain.specs.Demand.{NothingLost}
-use Rattle.plain.proofs.Lists.{at-put}
-use Rattle.plain.proofs.Facts.{pageAt, Live, Facts, used-in, LiveAt, pageIn}
+use Rattle.plain.proofs.Lists.{at_put}
+use Rattle.plain.proofs.Facts.{page_at, Live, Facts, used_in, LiveAt, page_in}
 use Rattle.plain.proofs.Shown.{files_of}
-use Rattle.plain.proofs.Headers.{withHeader}
-use Rattle.plain.proofs.Stored.{Storable, live-storable, stores}
-use Rattle.plain.proofs.Aged.{AllAging, Long, lengthens-pages, shortens-pages}
+use Rattle.plain.proofs.Headers.{with_header}
+use Rattle.plain.proofs.Stored.{Storable, live_storable, stores}
+use Rattle.plain.proofs.Aged.{AllAging, Long, lengthens_pages, shortens_pages}
 use Rattle.plain.proofs.Logic.{Claim, Does, ◌>>=◌, ◌>>◌, from, into, gives, chooses}
-use Rattle.plain.proofs.Phases.{Job, Phase, Shows, Stands, Anything, Ended, Makes, weaker, carries-out}
-use Rattle.plain.proofs.Found.{Mine, finds, reads-header, owns, found-hit, on-found, without-found}
-use Rattle.plain.proofs.Closing.{job_of, Row, nothing-lost-by}
+use Rattle.plain.proofs.Phases.{Job, Phase, Shows, Stands, Anything, Ended, Makes, weaker, carries_out}
+use Rattle.plain.proofs.Found.{Mine, finds, reads_header, owns, found_hit, on_found, without_found}
+use Rattle.plain.proofs.Closing.{job_of, Row, nothing_lost_by}
 
 -- the live header n, with the expiry e
 module _ (b : Bank) (t : Tables) (n e : ℕ) (f : Facts b t) (l : LiveAt t n) where
@@ -37,7 +37,7 @@ module _ (b : Bank) (t : Tables) (n e : ℕ) (f : Facts b t) (l : LiveAt t n) wh
   h = header_at t.hs n
 
   aging : (t' : Tables) → t'.ps ≡ t.ps
-      → ((i k m : ℕ) → LiveAt t' i → pageIn t' i k ≡ pageAt h m → pageAt h m ≢ 0 → (header_at t'.hs i).expires ≤ e)
+      → ((i k m : ℕ) → LiveAt t' i → page_in t' i k ≡ page_at h m → page_at h m ≢ 0 → (header_at t'.hs i).expires ≤ e)
       → AllAging b e h.pages t'
   aging t' same cap m ne = record {
     high = ((f.header n).full l.used).small m;
@@ -46,19 +46,19 @@ module _ (b : Bank) (t : Tables) (n e : ℕ) (f : Facts b t) (l : LiveAt t n) wh
   }
 
   -- only this header names its pages
-  pub before-aging : h.expires ≤ e → AllAging b e h.pages t
-  before-aging le =
+  pub before_aging : h.expires ≤ e → AllAging b e h.pages t
+  before_aging le =
       aging t refl (λ i k m l' q ne. rw (f.once i n l' l k m (λ z. ne (sym q ∙ z)) q).0 le)
 
-  pub after-aging : (g : Header) (next : ℕ) → g.expires ≤ e → AllAging b e h.pages (withHeader n g next t)
-  after-aging g next le =
-      aging (withHeader n g next t) refl (λ i k m l' q ne. at-put no_header t.hs.headers n g (used-in t n l.used).0 (used-in t n l.used).1
-      (λ i y. Live (clockOf t) y → pageAt y k ≡ pageAt h m → y.expires ≤ e)
+  pub after_aging : (g : Header) (next : ℕ) → g.expires ≤ e → AllAging b e h.pages (with_header n g next t)
+  after_aging g next le =
+      aging (with_header n g next t) refl (λ i k m l' q ne. at_put no_header t.hs.headers n g (used_in t n l.used).0 (used_in t n l.used).1
+      (λ i y. Live (clock_of t) y → page_at y k ≡ page_at h m → y.expires ≤ e)
       (λ _ _. le) (λ i d l'' q'. absurd (d (f.once i n l'' l k m (λ z. ne (sym q' ∙ z)) q').0)) i l' q)
 
-  pub renewed-storable : (number k : ℕ) → clockOf t ≤ e → Long b e h t → Storable b t n number k (setHeaderExpiry (clockOf t) e h)
-  renewed-storable number k late long =
-      let s = live-storable b t n number k f l in
+  pub renewed_storable : (number k : ℕ) → clock_of t ≤ e → Long b e h t → Storable b t n number k (set_header_expiry (clock_of t) e h)
+  renewed_storable number k late long =
+      let s = live_storable b t n number k f l in
       record {
         low = s.low;
         high = s.high;
@@ -81,61 +81,61 @@ module _ (b : Bank) (now client : ℕ) (id : FileId) (expires : ℕ) (t₀ : Tab
   -- the header step on header g
   abbrev Stores : ℕ → Tables → Header → Type 0
   Stores n t g =
-      Makes (λ i t'. Shows j (Phase.done (anId (fileId i))) t' × AllAging b e g.pages t')
-      (onHeaders (replaceHeader n (setHeaderExpiry (clockOf t) (later expires (clockOf t)) g)) t)
+      Makes (λ i t'. Shows j (Phase.done (an_id (file_id i))) t' × AllAging b e g.pages t')
+      (on_headers (replace_header n (set_header_expiry (clock_of t) (later expires (clock_of t)) g)) t)
 
   stores_at : (n : ℕ) (t : Tables) → Shows j Phase.waits t → Mine j id client n (header_at t.hs n) t.hs → Long b e (header_at t.hs n) t → Stores n t (header_at t.hs n)
-  unfolding deed plainSetExpiry view
+  unfolding deed plain_set_expiry view
   stores_at n t s w long =
-      let l = (found-hit t s w.0).live in
-      let same : later expires (clockOf t) ≡ e = ap (later expires) s.clock in
+      let l = (found_hit t s w.0).live in
+      let same : later expires (clock_of t) ≡ e = ap (later expires) s.clock in
       -- no page is new: which number and slot a new page would have does not matter
       stores {number = 0} {k = 0} (AllAging b e (header_at t.hs n).pages) t (λ x. cond (eqb x.0 id.0) none (files_of b t x)) _ s
-      (renewed-storable b t n (later expires (clockOf t)) s.facts l 0 0 (omega arith) (λ m ne. omega (arith, long m ne))) (without-found t s w.0) refl
-      (on-found t s w.0 _ ∙ rw w.1) (after-aging b t n e s.facts l _ _ (omega arith))
+      (renewed_storable b t n (later expires (clock_of t)) s.facts l 0 0 (omega arith) (λ m ne. omega (arith, long m ne))) (without_found t s w.0) refl
+      (on_found t s w.0 _ ∙ rw w.1) (after_aging b t n e s.facts l _ _ (omega arith))
 
   module _ (n : ℕ) (g : Header) where
-    stores-found : (t : Tables) → Shows j Phase.waits t → Mine j id client n g t.hs → Long b e g t → Stores n t g
-    stores-found t s w = subst (λ (h : Header). Mine j id client n h t.hs → Long b e h t → Stores n t h) w.0.at (stores_at n t s) w
+    stores_found : (t : Tables) → Shows j Phase.waits t → Mine j id client n g t.hs → Long b e g t → Stores n t g
+    stores_found t s w = subst (λ (h : Header). Mine j id client n h t.hs → Long b e h t → Stores n t h) w.0.at (stores_at n t s) w
 
-    sets-header : {X : Tables → Type 0} → ((t : Tables) → Shows j Phase.waits t → X t → Long b e g t × Mine j id client n g t.hs)
-        → Does (Ended j) (Stands j Phase.waits X) (headerStep (replaceHeader n (setHeaderExpiry now e g))) (λ i. Stands j (Phase.done (anId (fileId i))) (AllAging b e g.pages))
-    sets-header f =
-        carries-out (λ c. replaceHeader n (setHeaderExpiry c (later expires c) g)) (λ i. anId (fileId i)) (λ t s x. stores-found t s (f t s x).1 (f t s x).0)
+    sets_header : {X : Tables → Type 0} → ((t : Tables) → Shows j Phase.waits t → X t → Long b e g t × Mine j id client n g t.hs)
+        → Does (Ended j) (Stands j Phase.waits X) (header_step (replace_header n (set_header_expiry now e g))) (λ i. Stands j (Phase.done (an_id (file_id i))) (AllAging b e g.pages))
+    sets_header f =
+        carries_out (λ c. replace_header n (set_header_expiry c (later expires c) g)) (λ i. an_id (file_id i)) (λ t s x. stores_found t s (f t s x).1 (f t s x).0)
 
-    may-age : g.expires ≤ e → (t : Tables) → Shows j Phase.waits t → Mine j id client n g t.hs → AllAging b e g.pages t
-    may-age le t s w = subst (λ (h : Header). h.expires ≤ e → AllAging b e h.pages t) w.0.at (before-aging b t n e s.facts (found-hit t s w.0).live) le
+    may_age : g.expires ≤ e → (t : Tables) → Shows j Phase.waits t → Mine j id client n g t.hs → AllAging b e g.pages t
+    may_age le t s w = subst (λ (h : Header). h.expires ≤ e → AllAging b e h.pages t) w.0.at (before_aging b t n e s.facts (found_hit t s w.0).live) le
 
     outlived : e < g.expires → (t : Tables) → Shows j Phase.waits t → Mine j id client n g t.hs → Long b e g t
     outlived lt t s w =
-        subst (λ (h : Header). e < h.expires → Long b e h t) w.0.at (λ lt m ne. omega (arith, (s.facts.backed n (found-hit t s w.0).live m ne).long)) lt
+        subst (λ (h : Header). e < h.expires → Long b e h t) w.0.at (λ lt m ne. omega (arith, (s.facts.backed n (found_hit t s w.0).live m ne).long)) lt
 
     abbrev Carried : ℕ → Claim
-    Carried i = Stands j (Phase.done (anId (fileId i))) Anything
+    Carried i = Stands j (Phase.done (an_id (file_id i))) Anything
 
     lengthens : leb g.expires e ≡ true
         → Does (Ended j) (Stands j Phase.waits (λ t. Mine j id client n g t.hs))
-        (Steps.◌>>◌ (eachPage (λ q. step (onPages (setPageExpiry b e q))) g.pages) (headerStep (replaceHeader n (setHeaderExpiry now e g)))) Carried
+        (Steps.◌>>◌ (each_page (λ q. step (on_pages (set_page_expiry b e q))) g.pages) (header_step (replace_header n (set_header_expiry now e g)))) Carried
     lengthens le = do
-      from (weaker (λ t s w. (may-age (leb-true _ _ le) t s w, w))) (lengthens-pages e g (Mine j id client n g))
-      into (λ i. weaker (λ t _ _. tt)) (sets-header (λ t s w. w))
+      from (weaker (λ t s w. (may_age (leb-true _ _ le) t s w, w))) (lengthens_pages e g (Mine j id client n g))
+      into (λ i. weaker (λ t _ _. tt)) (sets_header (λ t s w. w))
 
     shortens : leb g.expires e ≡ false
         → Does (Ended j) (Stands j Phase.waits (λ t. Mine j id client n g t.hs))
-        (Steps.◌>>=◌ (headerStep (replaceHeader n (setHeaderExpiry now e g))) (λ i. Steps.◌>>◌ (eachPage (λ q. cleanup (onPages (setPageExpiry b e q))) g.pages) (give i))) Carried
+        (Steps.◌>>=◌ (header_step (replace_header n (set_header_expiry now e g))) (λ i. Steps.◌>>◌ (each_page (λ q. cleanup (on_pages (set_page_expiry b e q))) g.pages) (give i))) Carried
     shortens lt = do
-      i ← sets-header (λ t s w. (outlived (leb-false _ _ lt) t s w, w))
-      shortens-pages e g.pages
+      i ← sets_header (λ t s w. (outlived (leb-false _ _ lt) t s w, w))
+      shortens_pages e g.pages
       gives i (λ u t s. s)
 
-  set-expiry-row : Row (job_of b now (SetExpiry client id expires) t₀)
-  unfolding steps_of setExpiry
-  set-expiry-row = do
+  set_expiry_row : Row (job_of b now (SetExpiry client id expires) t₀)
+  unfolding steps_of set_expiry
+  set_expiry_row = do
     n ← finds
-    g ← reads-header n
+    g ← reads_header n
     owns client g
     i ← chooses (leb g.expires e) (lengthens n g) (shortens n g)
-    gives (anId (fileId i)) (λ u t s. s.shows)
+    gives (an_id (file_id i)) (λ u t s. s.shows)
 
-pub set-expiry-loses-nothing : (b : Bank) (client : ℕ) (id : FileId) (expires : ℕ) → NothingLost b (SetExpiry client id expires)
-set-expiry-loses-nothing b client id expires = nothing-lost-by b (SetExpiry client id expires) (λ now t _. set-expiry-row b now client id expires t)
+pub set_expiry_loses_nothing : (b : Bank) (client : ℕ) (id : FileId) (expires : ℕ) → NothingLost b (SetExpiry client id expires)
+set_expiry_loses_nothing b client id expires = nothing_lost_by b (SetExpiry client id expires) (λ now t _. set_expiry_row b now client id expires t)

@@ -10,13 +10,13 @@ use Rattle.paper.specs.declared.FileId.{FileId}
 use Rattle.paper.specs.declared.Header.{Header}
 use Rattle.paper.specs.declared.Found.TheVariants.{At, Nothing}
 use Rattle.paper.specs.Lists.{lowest}
-use Rattle.paper.specs.Tables.{Bank, Tables, no_header, clockOf, header_at, live}
-use Rattle.paper.specs.Stores.{hasId}
+use Rattle.paper.specs.Tables.{Bank, Tables, no_header, clock_of, header_at, live}
+use Rattle.paper.specs.Stores.{has_id}
 use Rattle.paper.specs.Plain.{File}
-use Rattle.paper.specs.View.{fileShown, fileFound, view}
+use Rattle.paper.specs.View.{file_shown, file_found, view}
 use Rattle.paper.proofs.Tests.{both}
-use Rattle.plain.proofs.Lists.{Search, search-of}
-use Rattle.plain.proofs.Facts.{Live, Facts, live_facts, live_test, used-in}
+use Rattle.plain.proofs.Lists.{Search, search_of}
+use Rattle.plain.proofs.Facts.{Live, Facts, live_facts, live_test, used_in}
 
 -- a live header with the id
 pub record Hit (c : ℕ) (x : FileId) (h : Header) : Type 0 where
@@ -24,54 +24,54 @@ pub record Hit (c : ℕ) (x : FileId) (h : Header) : Type 0 where
   pub same : h.id.0 ≡ x.0
 
 module _ (c : ℕ) (x : FileId) (h : Header) where
-  pub hit-facts : hasId c x h ≡ true → Hit c x h
-  hit-facts e =
+  pub hit_facts : has_id c x h ≡ true → Hit c x h
+  hit_facts e =
       let p = both (live c h) (eqb h.id.0 x.0) e in
       record { live = live_facts c h p.0; same = eqb-true _ _ p.1 }
 
-  pub hit-test : Hit c x h → hasId c x h ≡ true
-  hit-test q = rw (live_test c h q.live, eq-eqb _ _ q.same)
+  pub hit_test : Hit c x h → has_id c x h ≡ true
+  hit_test q = rw (live_test c h q.live, eq-eqb _ _ q.same)
 
-  pub miss-facts : hasId c x h ≡ false → Hit c x h → ⊥
-  miss-facts e q = true≢false (sym (hit-test q) ∙ e)
+  pub miss_facts : has_id c x h ≡ false → Hit c x h → ⊥
+  miss_facts e q = true≢false (sym (hit_test q) ∙ e)
 
-  pub miss-test : (Hit c x h → ⊥) → hasId c x h ≡ false
-  miss-test f = go (hasId c x h) refl
+  pub miss_test : (Hit c x h → ⊥) → has_id c x h ≡ false
+  miss_test f = go (has_id c x h) refl
     where
-      go : (u : Bool) → hasId c x h ≡ u → hasId c x h ≡ false
-      go true e = absurd (f (hit-facts e))
+      go : (u : Bool) → has_id c x h ≡ u → has_id c x h ≡ false
+      go true e = absurd (f (hit_facts e))
       go false e = e
 
   -- of a live header only the id is left to be tested
-  pub live-id : Live c h → hasId c x h ≡ eqb h.id.0 x.0
-  live-id l = rw (live_test c h l)
+  pub live_id : Live c h → has_id c x h ≡ eqb h.id.0 x.0
+  live_id l = rw (live_test c h l)
 
 -- what an id finds
 pub data Look (t : Tables) (x : FileId) : Type 0 where
-  at : (n : ℕ) → lowest (hasId (clockOf t) x) t.hs.headers ≡ At n → Hit (clockOf t) x (header_at t.hs n) → Look t x
-  nowhere : lowest (hasId (clockOf t) x) t.hs.headers ≡ Nothing → ((n : ℕ) → Hit (clockOf t) x (header_at t.hs n) → ⊥) → Look t x
+  at : (n : ℕ) → lowest (has_id (clock_of t) x) t.hs.headers ≡ At n → Hit (clock_of t) x (header_at t.hs n) → Look t x
+  nowhere : lowest (has_id (clock_of t) x) t.hs.headers ≡ Nothing → ((n : ℕ) → Hit (clock_of t) x (header_at t.hs n) → ⊥) → Look t x
 
 pub look : (t : Tables) (x : FileId) → Look t x
-look t x = go (search-of (hasId (clockOf t) x) no_header t.hs.headers)
+look t x = go (search_of (has_id (clock_of t) x) no_header t.hs.headers)
   where
-    go : Search (hasId (clockOf t) x) no_header t.hs.headers → Look t x
-    go (Search.found n e lo hi p) = at n e (hit-facts _ _ _ p)
+    go : Search (has_id (clock_of t) x) no_header t.hs.headers → Look t x
+    go (Search.found n e lo hi p) = at n e (hit_facts _ _ _ p)
     go (Search.missed e f) =
-        nowhere e (λ n q. let i = used-in t n q.live.used in miss-facts _ _ _ (f n i.0 i.1) q)
+        nowhere e (λ n q. let i = used_in t n q.live.used in miss_facts _ _ _ (f n i.0 i.1) q)
 
 abbrev pub files_of : Bank → Tables → FileId → Option File
-files_of b t x = fileFound b t (lowest (hasId (clockOf t) x) t.hs.headers)
+files_of b t x = file_found b t (lowest (has_id (clock_of t) x) t.hs.headers)
 
 module _ (b : Bank) (t : Tables) (x : FileId) where
-  pub files-at : (n : ℕ) → Facts b t → Hit (clockOf t) x (header_at t.hs n) → files_of b t x ≡ some (fileShown b t.ps (header_at t.hs n))
-  files-at n f q = go (look t x)
+  pub files_at : (n : ℕ) → Facts b t → Hit (clock_of t) x (header_at t.hs n) → files_of b t x ≡ some (file_shown b t.ps (header_at t.hs n))
+  files_at n f q = go (look t x)
     where
-      go : Look t x → files_of b t x ≡ some (fileShown b t.ps (header_at t.hs n))
+      go : Look t x → files_of b t x ≡ some (file_shown b t.ps (header_at t.hs n))
       go (at m e p) = rw (e, f.ids m n p.live.used q.live.used (p.same ∙ sym q.same))
       go (nowhere e h) = absurd (h n q)
 
-  pub files-none : ((n : ℕ) → Hit (clockOf t) x (header_at t.hs n) → ⊥) → files_of b t x ≡ none
-  files-none f = go (look t x)
+  pub files_none : ((n : ℕ) → Hit (clock_of t) x (header_at t.hs n) → ⊥) → files_of b t x ≡ none
+  files_none f = go (look t x)
     where
       go : Look t x → files_of b t x ≡ none
       go (at m e p) = absurd (f m p)
@@ -79,9 +79,9 @@ module _ (b : Bank) (t : Tables) (x : FileId) where
 
 -- a machine is its clock, its next id and its files
 pub same_view : (b : Bank) (t : Tables) (fs : FileId → Option File) → ((x : FileId) → files_of b t x ≡ fs x)
-    → view b t ≡ record { clock = clockOf t; next = t.hs.control.next; files = fs }
+    → view b t ≡ record { clock = clock_of t; next = t.hs.control.next; files = fs }
 unfolding view
-same_view b t fs e = λ j. record { clock = clockOf t; next = t.hs.control.next; files = λ x. e x j }
+same_view b t fs e = λ j. record { clock = clock_of t; next = t.hs.control.next; files = λ x. e x j }
 
 -- tables that are sound and show the same
 pub record Same (b : Bank) (t t' : Tables) : Type 0 where

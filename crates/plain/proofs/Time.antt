@@ -8,24 +8,24 @@ use borrow.Author.Tests.{ltb-true, lt-ltb}
 use lib.Dec.{ltb}
 use Rattle.paper.specs.declared.FileId.{FileId}
 use Rattle.paper.specs.declared.Header.{Header}
-use Rattle.paper.specs.Tables.{Bank, Tables, clockOf, header_at, withClock}
+use Rattle.paper.specs.Tables.{Bank, Tables, clock_of, header_at, with_clock}
 use Rattle.paper.specs.Plain.{kept, passed}
 use Rattle.paper.specs.View.{view}
 use Rattle.plain.proofs.Facts.{Live, InUse, Facts}
-use Rattle.plain.proofs.Shown.{Hit, Look, look, files_of, files-at, files-none, same_view}
+use Rattle.plain.proofs.Shown.{Hit, Look, look, files_of, files_at, files_none, same_view}
 
 sooner : {c now : ℕ} {h : Header} → c ≤ now → Live now h → Live c h
 sooner le l = record { used = l.used; until = omega arith }
 
-module _ (b : Bank) (now : ℕ) (t : Tables) (f : Facts b t) (le : clockOf t ≤ now) where
+module _ (b : Bank) (now : ℕ) (t : Tables) (f : Facts b t) (le : clock_of t ≤ now) where
   abbrev t' : Tables
-  t' = withClock now t
+  t' = with_clock now t
 
-  pub time-facts : Facts b (withClock now t)
-  time-facts = record {
+  pub time_facts : Facts b (with_clock now t)
+  time_facts = record {
     count = f.count;
     next_low = f.next_low;
-    next-high = f.next-high;
+    next_high = f.next_high;
     spare = f.spare;
     header = λ n. record { blank = (f.header n).blank; full = λ u. older ((f.header n).full u) };
     slot = f.slot;
@@ -34,10 +34,10 @@ module _ (b : Bank) (now : ℕ) (t : Tables) (f : Facts b t) (le : clockOf t ≤
     once = λ i j l k. f.once i j (sooner le l) (sooner le k);
   }
     where
-      older : {h : Header} → InUse b t.hs.control h → InUse b (withClock now t).hs.control h
+      older : {h : Header} → InUse b t.hs.control h → InUse b (with_clock now t).hs.control h
       older u = record {
-        id-low = u.id-low;
-        id-high = u.id-high;
+        id_low = u.id_low;
+        id_high = u.id_high;
         made = u.made;
         past = omega (arith, u.past);
         ends = u.ends;
@@ -45,18 +45,18 @@ module _ (b : Bank) (now : ℕ) (t : Tables) (f : Facts b t) (le : clockOf t ≤
         small = u.small;
       }
 
-  pub time-view : view b (withClock now t) ≡ passed now (view b t)
+  pub time_view : view b (with_clock now t) ≡ passed now (view b t)
   unfolding passed view
-  time-view = same_view b t' (λ x. kept now (files_of b t x)) (λ x. go x (look t' x) (look t x))
+  time_view = same_view b t' (λ x. kept now (files_of b t x)) (λ x. go x (look t' x) (look t x))
     where
-      gone : (x : FileId) (n : ℕ) → Hit (clockOf t) x (header_at t.hs n) → (Hit now x (header_at t.hs n) → ⊥) → (u : Bool) → ltb now (header_at t.hs n).expires ≡ u
+      gone : (x : FileId) (n : ℕ) → Hit (clock_of t) x (header_at t.hs n) → (Hit now x (header_at t.hs n) → ⊥) → (u : Bool) → ltb now (header_at t.hs n).expires ≡ u
           → ltb now (header_at t.hs n).expires ≡ false
       gone x n q no_hit true e = absurd (no_hit (record { live = record { used = q.live.used; until = ltb-true _ _ e }; same = q.same }))
       gone x n q no_hit false e = e
 
       go : (x : FileId) → Look t' x → Look t x → files_of b t' x ≡ kept now (files_of b t x)
       go x (Look.at n e q) r =
-          rw (files-at b t' x n time-facts q, files-at b t x n f (record { live = sooner le q.live; same = q.same }), lt-ltb _ _ q.live.until)
+          rw (files_at b t' x n time_facts q, files_at b t x n f (record { live = sooner le q.live; same = q.same }), lt-ltb _ _ q.live.until)
       go x (Look.nowhere e h) (Look.at n g q) =
-          rw (files-none b t' x h, files-at b t x n f q, gone x n q (h n) (ltb now (header_at t.hs n).expires) refl)
-      go x (Look.nowhere e h) (Look.nowhere g k) = rw (files-none b t' x h, files-none b t x k)
+          rw (files_none b t' x h, files_at b t x n f q, gone x n q (h n) (ltb now (header_at t.hs n).expires) refl)
+      go x (Look.nowhere e h) (Look.nowhere g k) = rw (files_none b t' x h, files_none b t x k)

@@ -10,7 +10,7 @@ use Rattle.paper.specs.declared.FileId.{FileId}
 use Rattle.paper.specs.declared.PageNum.{PageNum}
 use Rattle.paper.specs.Answers.{Request, Read, Info, Scavenge, contents, facts}
 use Rattle.paper.specs.Requests.{Reply}
-use Rattle.paper.specs.Plain.{File, Plain, does, refuses, told, passed, plain, deed, plainRead, plainInfo}
+use Rattle.paper.specs.Plain.{File, Plain, does, refuses, told, passed, plain, deed, plain_read, plain_info}
 use Rattle.paper.specs.View.{beside, carried}
 
 -- the requests without a header step
@@ -20,26 +20,26 @@ pub data Looks : Request → Type 0 where
   sweeps : Looks Scavenge
 
 module _ (m : Plain) (lent : List ℕ) where
-  page-read : (p : Option (List ℕ)) → (told lent m (elim p [ none ↦ refuses 6 | some c ↦ does (contents c) m ])).machine ≡ m
+  page_read : (p : Option (List ℕ)) → (told lent m (elim p [ none ↦ refuses 6 | some c ↦ does (contents c) m ])).machine ≡ m
   unfolding told
-  page-read none = refl
-  page-read (some c) = refl
+  page_read none = refl
+  page_read (some c) = refl
 
-  file-read : (number : PageNum) (f : Option File) → (told lent m (elim f [ none ↦ refuses 4 | some g ↦ elim (g.pages number) [ none ↦ refuses 6 | some c ↦ does (contents c) m ] ])).machine ≡ m
+  file_read : (number : PageNum) (f : Option File) → (told lent m (elim f [ none ↦ refuses 4 | some g ↦ elim (g.pages number) [ none ↦ refuses 6 | some c ↦ does (contents c) m ] ])).machine ≡ m
   unfolding told
-  file-read number none = refl
-  file-read number (some f) = page-read (f.pages number)
+  file_read number none = refl
+  file_read number (some f) = page_read (f.pages number)
 
-  file-told : (f : Option File) → (told lent m (elim f [ none ↦ refuses 4 | some g ↦ does (facts g.facts) m ])).machine ≡ m
+  file_told : (f : Option File) → (told lent m (elim f [ none ↦ refuses 4 | some g ↦ does (facts g.facts) m ])).machine ≡ m
   unfolding told
-  file-told none = refl
-  file-told (some f) = refl
+  file_told none = refl
+  file_told (some f) = refl
 
-only-time : (now : ℕ) (q : Request) (m : Plain) → Looks q → (plain now q m).machine ≡ passed now m
-unfolding plain deed plainRead plainInfo told
-only-time now q m (reads id number lent) = file-read (passed now m) _ number ((passed now m).files id)
-only-time now q m (informs id) = file-told (passed now m) _ ((passed now m).files id)
-only-time now q m sweeps = refl
+only_time : (now : ℕ) (q : Request) (m : Plain) → Looks q → (plain now q m).machine ≡ passed now m
+unfolding plain deed plain_read plain_info told
+only_time now q m (reads id number lent) = file_read (passed now m) _ number ((passed now m).files id)
+only_time now q m (informs id) = file_told (passed now m) _ ((passed now m).files id)
+only_time now q m sweeps = refl
 
 either : {A : Type 0} (c : Bool) (x : A) → cond c x x ≡ x
 either true x = refl
@@ -47,4 +47,4 @@ either false x = refl
 
 pub unchanged : (now : ℕ) (q : Request) (r : Reply) (m : Plain) → Looks q → beside now q r m ≡ cond (leb 1 r.report.number && leb r.report.number 3) m (passed now m)
 unfolding beside
-unchanged now q r m l = rw (only-time now q m l, either (carried r) (passed now m))
+unchanged now q r m l = rw (only_time now q m l, either (carried r) (passed now m))

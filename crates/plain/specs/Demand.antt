@@ -1,9 +1,9 @@
 -- Demand 3 for one request, on records: the tables stay sound, show what the plain machine then holds, and a Success is the plain machine's.
 use Rattle.std.specs.Prelude.{ℕ, ◌≤◌, ◌≡◌, true, List, length}
-use Rattle.paper.specs.Tables.{Bank, Tables, clockOf, header_at}
+use Rattle.paper.specs.Tables.{Bank, Tables, clock_of, header_at}
 use Rattle.paper.specs.Sound.{sound}
 use Rattle.paper.specs.Answers.{Request}
-use Rattle.paper.specs.Requests.{Reply, wellFormed, carryOut}
+use Rattle.paper.specs.Requests.{Reply, well_formed, carry_out}
 use Rattle.paper.specs.Plain.{Told, plain}
 use Rattle.paper.specs.View.{view, beside}
 
@@ -12,8 +12,8 @@ pub record Ready (b : Bank) (now : ℕ) (q : Request) (t : Tables) : Type 0 wher
   pub sixteen : (n : ℕ) → length (header_at t.hs n).pages ≡ 16
   pub whole : length t.ps ≡ b.slots
   pub sound : sound b t ≡ true
-  pub time : clockOf t ≤ now
-  pub formed : wellFormed b q ≡ true
+  pub time : clock_of t ≤ now
+  pub formed : well_formed b q ≡ true
 
 -- A Success is one that the plain machine gives: its number, id, Info's fields and the lent page. (It knows no counts.)
 pub record Agrees (r : Reply) (m : Told) : Type 0 where
@@ -29,4 +29,4 @@ pub record Kept (b : Bank) (now : ℕ) (q : Request) (t : Tables) (r : Reply) : 
 
 -- whatever the outcomes
 abbrev pub NothingLost : Bank → Request → Type 0
-NothingLost b q = (now : ℕ) (os : List ℕ) (t : Tables) → Ready b now q t → Kept b now q t (carryOut b now os q t)
+NothingLost b q = (now : ℕ) (os : List ℕ) (t : Tables) → Ready b now q t → Kept b now q t (carry_out b now os q t)

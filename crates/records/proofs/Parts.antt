@@ -8,76 +8,76 @@ use native.Mathlib.Omega.{arith}
 use lib.ListN.{length, get_or, take, drop, set, length-drop, take-append-drop}
 use lib.Seq.{length-take-le, take_at, drop_at, take-add, drop-drop}
 use Rattle.bits.specs.Field.{Bytes, splice}
-use Rattle.bits.proofs.Cover.{bytes_take, bytes_drop}
+use Rattle.bits.proofs.Cover.{bytes-take, bytes-drop}
 use Rattle.paper.specs.Bytes.{parts, joined}
 use Rattle.records.specs.Fits.{Each}
 use Rattle.records.specs.Fits.Each.{none, one}
 
 -- the first part and the others
 module _ (k n : ℕ) (xs : List ℕ) (l : length xs ≡ suc n * k) where
-  first-length : length (take k xs) ≡ k
-  first-length = length-take-le k xs (omega (arith, suc-mul n k))
+  first_length : length (take k xs) ≡ k
+  first_length = length-take-le k xs (omega (arith, suc-mul n k))
 
-  rest-length : length (drop k xs) ≡ n * k
-  rest-length = simp length-drop (omega (arith, suc-mul n k))
+  rest_length : length (drop k xs) ≡ n * k
+  rest_length = simp length-drop (omega (arith, suc-mul n k))
 
-pub length-parts : (k n : ℕ) (xs : List ℕ) → length (parts k n xs) ≡ n
+pub length_parts : (k n : ℕ) (xs : List ℕ) → length (parts k n xs) ≡ n
 unfolding parts
-length-parts k zero xs = refl
-length-parts k (suc n) xs = ap suc (length-parts k n (drop k xs))
+length_parts k zero xs = refl
+length_parts k (suc n) xs = ap suc (length_parts k n (drop k xs))
 
-pub parts-joined : (k n : ℕ) (xs : List ℕ) → length xs ≡ n * k → joined (parts k n xs) ≡ xs
+pub parts_joined : (k n : ℕ) (xs : List ℕ) → length xs ≡ n * k → joined (parts k n xs) ≡ xs
 unfolding parts joined
-parts-joined k zero [] l = refl
-parts-joined k zero (x ∷ xs) l = absurd (omega (arith, zero-mul k))
-parts-joined k (suc n) xs l =
-    ap (λ (r : List ℕ). take k xs ++ r) (parts-joined k n (drop k xs) (rest-length k n xs l)) ∙ take-append-drop k xs
+parts_joined k zero [] l = refl
+parts_joined k zero (x ∷ xs) l = absurd (omega (arith, zero-mul k))
+parts_joined k (suc n) xs l =
+    ap (λ (r : List ℕ). take k xs ++ r) (parts_joined k n (drop k xs) (rest_length k n xs l)) ∙ take-append-drop k xs
 
 -- k bytes put at the start
-pub splice-first : (k : ℕ) (ys xs : List ℕ) → length ys ≡ k → (take k (splice 0 ys xs) ≡ ys) × (drop k (splice 0 ys xs) ≡ drop k xs)
+pub splice_first : (k : ℕ) (ys xs : List ℕ) → length ys ≡ k → (take k (splice 0 ys xs) ≡ ys) × (drop k (splice 0 ys xs) ≡ drop k xs)
 unfolding splice
-splice-first k ys xs e = rw (zero-add, e) (take_at ys (drop k xs) k e, drop_at ys (drop k xs) k e)
+splice_first k ys xs e = rw (zero-add, e) (take_at ys (drop k xs) k e, drop_at ys (drop k xs) k e)
 
 -- bytes put after the first k
-pub splice-later : (k at at' : ℕ) (ys xs : List ℕ) → k ≤ length xs → at' ≡ k + at
+pub splice_later : (k at at' : ℕ) (ys xs : List ℕ) → k ≤ length xs → at' ≡ k + at
     → (take k (splice at' ys xs) ≡ take k xs) × (drop k (splice at' ys xs) ≡ splice at ys (drop k xs))
 unfolding splice
-splice-later k at at' ys xs h e =
+splice_later k at at' ys xs h e =
     let l : length (take k xs) ≡ k = length-take-le k xs h in
     rw (e, take-add k at xs, append_assoc, add_assoc k at, ← drop-drop (at + length ys) k xs) (take_at (take k xs) _ k l, drop_at (take k xs) _ k l)
 
 module _ {A : Type 0} (of : A → List ℕ) (from : List ℕ → A) (k : ℕ) where
   -- Records that fit are read back.
-  pub parts-read : (P : A → Type 0) → ((x : A) → P x → length (of x) ≡ k) → ((x : A) → P x → from (of x) ≡ x)
+  pub parts_read : (P : A → Type 0) → ((x : A) → P x → length (of x) ≡ k) → ((x : A) → P x → from (of x) ≡ x)
       → {xs : List A} → Each P xs → map from (parts k (length xs) (joined (map of xs))) ≡ xs
   unfolding parts joined
-  parts-read P long back none = refl
-  parts-read P long back (one {x = x} {xs = xs} p r) =
+  parts_read P long back none = refl
+  parts_read P long back (one {x = x} {xs = xs} p r) =
       let rest = joined (map of xs) in
       ap₂ {C = List A} (λ (a : A) (l : List A). a ∷ l)
       (ap from (take_at (of x) rest k (long x p)) ∙ back x p)
-      (ap (λ (l : List ℕ). map from (parts k (length xs) l)) (drop_at (of x) rest k (long x p)) ∙ parts-read P long back r)
+      (ap (λ (l : List ℕ). map from (parts k (length xs) l)) (drop_at (of x) rest k (long x p)) ∙ parts_read P long back r)
 
   -- Parts that are written back as they were give the bytes that they were read from.
-  pub parts-written : ((p : List ℕ) → Bytes p → length p ≡ k → of (from p) ≡ p) → (n : ℕ) (xs : List ℕ) → Bytes xs → length xs ≡ n * k
+  pub parts_written : ((p : List ℕ) → Bytes p → length p ≡ k → of (from p) ≡ p) → (n : ℕ) (xs : List ℕ) → Bytes xs → length xs ≡ n * k
       → joined (map of (map from (parts k n xs))) ≡ xs
   unfolding parts
-  parts-written back n xs b l = ap joined (go n xs b l) ∙ parts-joined k n xs l
+  parts_written back n xs b l = ap joined (go n xs b l) ∙ parts_joined k n xs l
     where
       go : (n : ℕ) (xs : List ℕ) → Bytes xs → length xs ≡ n * k → map of (map from (parts k n xs)) ≡ parts k n xs
       go zero xs b l = refl
       go (suc n) xs b l =
           ap₂ {C = List (List ℕ)} (λ (p : List ℕ) (ps : List (List ℕ)). p ∷ ps)
-          (back (take k xs) (bytes_take k xs b) (first-length k n xs l))
-          (go n (drop k xs) (bytes_drop k xs b) (rest-length k n xs l))
+          (back (take k xs) (bytes-take k xs b) (first_length k n xs l))
+          (go n (drop k xs) (bytes-drop k xs b) (rest_length k n xs l))
 
 module _ {A : Type 0} (from : List ℕ → A) (k : ℕ) where
-  pub parts-fit : (P : A → Type 0) → ((p : List ℕ) → Bytes p → length p ≡ k → P (from p)) → (n : ℕ) (xs : List ℕ) → Bytes xs → length xs ≡ n * k
+  pub parts_fit : (P : A → Type 0) → ((p : List ℕ) → Bytes p → length p ≡ k → P (from p)) → (n : ℕ) (xs : List ℕ) → Bytes xs → length xs ≡ n * k
       → Each P (map from (parts k n xs))
   unfolding parts
-  parts-fit P fits zero xs b l = none
-  parts-fit P fits (suc n) xs b l =
-      one (fits (take k xs) (bytes_take k xs b) (first-length k n xs l)) (parts-fit P fits n (drop k xs) (bytes_drop k xs b) (rest-length k n xs l))
+  parts_fit P fits zero xs b l = none
+  parts_fit P fits (suc n) xs b l =
+      one (fits (take k xs) (bytes-take k xs b) (first_length k n xs l)) (parts_fit P fits n (drop k xs) (bytes-drop k xs b) (rest_length k n xs l))
 
   pub part_at : (n i : ℕ) (xs : List ℕ) (d : A) → i < n → get_or (map from (parts k n xs)) i d ≡ from (take k (drop (i * k) xs))
   unfolding parts
@@ -87,13 +87,13 @@ module _ {A : Type 0} (from : List ℕ → A) (k : ℕ) where
       let e : suc i * k ≡ k + i * k = omega (arith, suc-mul i k) in
       rw (e, ← drop-drop) (part_at n i (drop k xs) d (le_of_suc-le-suc h))
 
-  pub part-put : (n i : ℕ) (ys xs : List ℕ) {x : A} → i < n → length xs ≡ n * k → length ys ≡ k → from ys ≡ x
+  pub part_put : (n i : ℕ) (ys xs : List ℕ) {x : A} → i < n → length xs ≡ n * k → length ys ≡ k → from ys ≡ x
       → map from (parts k n (splice (i * k) ys xs)) ≡ set (map from (parts k n xs)) i x
   unfolding parts
-  part-put zero i ys xs h l ly e = absurd (not-suc-le-zero h)
-  part-put (suc n) zero ys xs h l ly e =
-      let s = splice-first k ys xs ly in
+  part_put zero i ys xs h l ly e = absurd (not-suc-le-zero h)
+  part_put (suc n) zero ys xs h l ly e =
+      let s = splice_first k ys xs ly in
       rw (zero-mul, s.0, s.1, e)
-  part-put (suc n) (suc i) ys xs h l ly e =
-      let s = splice-later k (i * k) (suc i * k) ys xs (omega (arith, suc-mul n k)) (omega (arith, suc-mul i k)) in
-      rw (s.0, s.1) (ap (λ (r : List A). from (take k xs) ∷ r) (part-put n i ys (drop k xs) (le_of_suc-le-suc h) (rest-length k n xs l) ly e))
+  part_put (suc n) (suc i) ys xs h l ly e =
+      let s = splice_later k (i * k) (suc i * k) ys xs (omega (arith, suc-mul n k)) (omega (arith, suc-mul i k)) in
+      rw (s.0, s.1) (ap (λ (r : List A). from (take k xs) ∷ r) (part_put n i ys (drop k xs) (le_of_suc-le-suc h) (rest_length k n xs l) ly e))

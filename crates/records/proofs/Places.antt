@@ -9,57 +9,57 @@ use lib.Seq.{drop-drop}
 use Rattle.bits.specs.Field.{splice}
 use Rattle.paper.specs.declared.Control.{Control}
 use Rattle.paper.specs.declared.Header.{Header}
-use Rattle.paper.specs.Ids.{pageId}
+use Rattle.paper.specs.Ids.{page_id}
 use Rattle.paper.specs.Lists.{numbered, put_at}
-use Rattle.paper.specs.Tables.{Bank, Slot, no_header, no_slot, headerSlots, header_at, slot_at, putHeader, withControl, putSlot}
-use Rattle.paper.specs.Bytes.{slotSize, headersLength, pagesLength, controlBytes, controlFrom, spareFrom, headerBytes, headerFrom, slotBytes, slotFrom, parts, hsFrom, psFrom}
+use Rattle.paper.specs.Tables.{Bank, Slot, no_header, no_slot, header_slots, header_at, slot_at, put_header, with_control, put_slot}
+use Rattle.paper.specs.Bytes.{slot_size, headers_length, pages_length, control_bytes, control_from, spare_from, header_bytes, header_from, slot_bytes, slot_from, parts, hs_from, ps_from}
 use Rattle.records.specs.Fits.{ControlFits, HeaderFits, SlotFits}
-use Rattle.records.proofs.Records.{control-read, control-length, header_read, header-length, slot_read, slot-length}
-use Rattle.records.proofs.Parts.{splice-first, splice-later, part_at, part-put}
-use Rattle.records.proofs.Tables.{length-headers}
+use Rattle.records.proofs.Records.{control_read, control_length, header_read, header_length, slot_read, slot_length}
+use Rattle.records.proofs.Parts.{splice_first, splice_later, part_at, part_put}
+use Rattle.records.proofs.Tables.{length_headers}
 
-pub control-place : (xs : List ℕ) → controlFrom (take 36 xs) ≡ (hsFrom xs).control
-unfolding hsFrom
-control-place xs = refl
+pub control_place : (xs : List ℕ) → control_from (take 36 xs) ≡ (hs_from xs).control
+unfolding hs_from
+control_place xs = refl
 
-pub control-put : (xs : List ℕ) (c : Control) → ControlFits c (hsFrom xs).spare
-    → hsFrom (splice 0 (controlBytes c (spareFrom (take 36 xs))) xs) ≡ withControl c (hsFrom xs)
-unfolding hsFrom
-control-put xs c f =
-    let s = spareFrom (take 36 xs) in
-    let ys = controlBytes c s in
-    let placed = splice-first 36 ys xs (control-length c s) in
-    let read : (controlFrom (take 36 (splice 0 ys xs)) ≡ c) × (spareFrom (take 36 (splice 0 ys xs)) ≡ s) = rw placed.0 (control-read c s f) in
-    λ i. record { control = read.0 i; spare = read.1 i; headers = map headerFrom (parts 36 headerSlots (placed.1 i)) }
+pub control_put : (xs : List ℕ) (c : Control) → ControlFits c (hs_from xs).spare
+    → hs_from (splice 0 (control_bytes c (spare_from (take 36 xs))) xs) ≡ with_control c (hs_from xs)
+unfolding hs_from
+control_put xs c f =
+    let s = spare_from (take 36 xs) in
+    let ys = control_bytes c s in
+    let placed = splice_first 36 ys xs (control_length c s) in
+    let read : (control_from (take 36 (splice 0 ys xs)) ≡ c) × (spare_from (take 36 (splice 0 ys xs)) ≡ s) = rw placed.0 (control_read c s f) in
+    λ i. record { control = read.0 i; spare = read.1 i; headers = map header_from (parts 36 header_slots (placed.1 i)) }
 
-pub header-place : (xs : List ℕ) (n : ℕ) → 1 ≤ n → n ≤ headerSlots → header_at (hsFrom xs) n ≡ headerFrom (take 36 (drop (n * 36) xs))
-unfolding hsFrom numbered
-header-place xs zero lo hi = absurd (omega arith)
-header-place xs (suc i) lo hi =
+pub header_place : (xs : List ℕ) (n : ℕ) → 1 ≤ n → n ≤ header_slots → header_at (hs_from xs) n ≡ header_from (take 36 (drop (n * 36) xs))
+unfolding hs_from numbered
+header_place xs zero lo hi = absurd (omega arith)
+header_place xs (suc i) lo hi =
     let e : suc i * 36 ≡ 36 + i * 36 = omega arith in
-    rw (e, ← drop-drop (i * 36) 36 xs) (part_at headerFrom 36 headerSlots i (drop 36 xs) no_header hi)
+    rw (e, ← drop-drop (i * 36) 36 xs) (part_at header_from 36 header_slots i (drop 36 xs) no_header hi)
 
-pub header-put : (xs : List ℕ) → length xs ≡ headersLength → (n : ℕ) → 1 ≤ n → n ≤ headerSlots → (h : Header) → HeaderFits h
-    → hsFrom (splice (n * 36) (headerBytes h) xs) ≡ putHeader n h (hsFrom xs)
-unfolding hsFrom put_at
-header-put xs l zero lo hi h f = absurd (omega arith)
-header-put xs l (suc i) lo hi h f =
-    let ys = headerBytes h in
-    let placed = splice-later 36 (i * 36) (suc i * 36) ys xs (omega arith) (omega arith) in
-    let headers : map headerFrom (parts 36 headerSlots (drop 36 (splice (suc i * 36) ys xs))) ≡ set (map headerFrom (parts 36 headerSlots (drop 36 xs))) i h =
-    ap (λ (r : List ℕ). map headerFrom (parts 36 headerSlots r)) placed.1 ∙ part-put headerFrom 36 headerSlots i ys (drop 36 xs) hi (length-headers xs l) (header-length h) (header_read h f) in
-    λ j. record { control = controlFrom (placed.0 j); spare = spareFrom (placed.0 j); headers = headers j }
+pub header_put : (xs : List ℕ) → length xs ≡ headers_length → (n : ℕ) → 1 ≤ n → n ≤ header_slots → (h : Header) → HeaderFits h
+    → hs_from (splice (n * 36) (header_bytes h) xs) ≡ put_header n h (hs_from xs)
+unfolding hs_from put_at
+header_put xs l zero lo hi h f = absurd (omega arith)
+header_put xs l (suc i) lo hi h f =
+    let ys = header_bytes h in
+    let placed = splice_later 36 (i * 36) (suc i * 36) ys xs (omega arith) (omega arith) in
+    let headers : map header_from (parts 36 header_slots (drop 36 (splice (suc i * 36) ys xs))) ≡ set (map header_from (parts 36 header_slots (drop 36 xs))) i h =
+    ap (λ (r : List ℕ). map header_from (parts 36 header_slots r)) placed.1 ∙ part_put header_from 36 header_slots i ys (drop 36 xs) hi (length_headers xs l) (header_length h) (header_read h f) in
+    λ j. record { control = control_from (placed.0 j); spare = spare_from (placed.0 j); headers = headers j }
 
 module _ (b : Bank) (xs : List ℕ) where
-  pub slot-place : (n : ℕ) → 1 ≤ n → n ≤ b.slots → slot_at b (psFrom b xs) (pageId n) ≡ slotFrom (take (slotSize b) (drop ((n - 1) * slotSize b) xs))
-  unfolding psFrom numbered
-  slot-place zero lo hi = absurd (omega arith)
-  slot-place (suc i) lo hi = let e : suc i - 1 ≡ i = omega arith in rw e (part_at slotFrom (slotSize b) b.slots i xs (no_slot b) hi)
+  pub slot_place : (n : ℕ) → 1 ≤ n → n ≤ b.slots → slot_at b (ps_from b xs) (page_id n) ≡ slot_from (take (slot_size b) (drop ((n - 1) * slot_size b) xs))
+  unfolding ps_from numbered
+  slot_place zero lo hi = absurd (omega arith)
+  slot_place (suc i) lo hi = let e : suc i - 1 ≡ i = omega arith in rw e (part_at slot_from (slot_size b) b.slots i xs (no_slot b) hi)
 
-  pub slot-put : length xs ≡ pagesLength b → (n : ℕ) → 1 ≤ n → n ≤ b.slots → (s : Slot) → SlotFits b s
-      → psFrom b (splice ((n - 1) * slotSize b) (slotBytes s) xs) ≡ putSlot (pageId n) s (psFrom b xs)
-  unfolding psFrom put_at
-  slot-put l zero lo hi s f = absurd (omega arith)
-  slot-put l (suc i) lo hi s f =
+  pub slot_put : length xs ≡ pages_length b → (n : ℕ) → 1 ≤ n → n ≤ b.slots → (s : Slot) → SlotFits b s
+      → ps_from b (splice ((n - 1) * slot_size b) (slot_bytes s) xs) ≡ put_slot (page_id n) s (ps_from b xs)
+  unfolding ps_from put_at
+  slot_put l zero lo hi s f = absurd (omega arith)
+  slot_put l (suc i) lo hi s f =
       let e : suc i - 1 ≡ i = omega arith in
-      rw e (part-put slotFrom (slotSize b) b.slots i (slotBytes s) xs hi l (slot-length b s f) (slot_read b s f))
+      rw e (part_put slot_from (slot_size b) b.slots i (slot_bytes s) xs hi l (slot_length b s f) (slot_read b s f))

@@ -7,77 +7,77 @@ use native.Mathlib.Omega.{arith}
 use lib.ListN.{length, take, drop, length-drop, length-map, take-append-drop}
 use lib.Seq.{length-take-le, take_at, drop_at}
 use Rattle.bits.specs.Field.{Bytes}
-use Rattle.bits.proofs.Cover.{bytes_take, bytes_drop}
-use Rattle.paper.specs.Tables.{Bank, HS, PS, Tables, headerSlots}
-use Rattle.paper.specs.Bytes.{recordSize, slotSize, headersLength, pagesLength, controlBytes, controlFrom, spareFrom, headerBytes, headerFrom, slotBytes, slotFrom, parts, joined, hsFrom, headerTable, psFrom, pageTable, tablesFrom}
+use Rattle.bits.proofs.Cover.{bytes-take, bytes-drop}
+use Rattle.paper.specs.Tables.{Bank, HS, PS, Tables, header_slots}
+use Rattle.paper.specs.Bytes.{record_size, slot_size, headers_length, pages_length, control_bytes, control_from, spare_from, header_bytes, header_from, slot_bytes, slot_from, parts, joined, hs_from, header_table, ps_from, page_table, tables_from}
 use Rattle.records.specs.Fits.{HeaderFits, SlotFits, HSFits, PSFits}
-use Rattle.records.proofs.Records.{same-written, control-read, control-written, control-fits, control-length, header_read, header-written, header-fits, header-length, slot_read, slot-written, slot-fits, slot-length}
-use Rattle.records.proofs.Parts.{length-parts, parts-read, parts-written, parts-fit}
+use Rattle.records.proofs.Records.{same_written, control_read, control_written, control_fits, control_length, header_read, header_written, header_fits, header_length, slot_read, slot_written, slot_fits, slot_length}
+use Rattle.records.proofs.Parts.{length_parts, parts_read, parts_written, parts_fit}
 
 -- the header table
 
-pub hs-read : (s : HS) → HSFits s → hsFrom (headerTable s) ≡ s
-unfolding hsFrom headerTable
-hs-read s f =
-    let c = controlBytes s.control s.spare in
-    let r = joined (map headerBytes s.headers) in
-    let l : length c ≡ recordSize = control-length s.control s.spare in
-    let read : (controlFrom (take recordSize (c ++ r)) ≡ s.control) × (spareFrom (take recordSize (c ++ r)) ≡ s.spare) =
-    rw (take_at c r recordSize l) (control-read s.control s.spare f.control) in
-    let headers : map headerFrom (parts recordSize headerSlots (drop recordSize (c ++ r))) ≡ s.headers =
-    ap₂ (λ (n : ℕ) (q : List ℕ). map headerFrom (parts recordSize n q)) (sym f.count) (drop_at c r recordSize l)
-    ∙ parts-read headerBytes headerFrom recordSize HeaderFits (λ h p. header-length h) header_read f.headers in
+pub hs_read : (s : HS) → HSFits s → hs_from (header_table s) ≡ s
+unfolding hs_from header_table
+hs_read s f =
+    let c = control_bytes s.control s.spare in
+    let r = joined (map header_bytes s.headers) in
+    let l : length c ≡ record_size = control_length s.control s.spare in
+    let read : (control_from (take record_size (c ++ r)) ≡ s.control) × (spare_from (take record_size (c ++ r)) ≡ s.spare) =
+    rw (take_at c r record_size l) (control_read s.control s.spare f.control) in
+    let headers : map header_from (parts record_size header_slots (drop record_size (c ++ r))) ≡ s.headers =
+    ap₂ (λ (n : ℕ) (q : List ℕ). map header_from (parts record_size n q)) (sym f.count) (drop_at c r record_size l)
+    ∙ parts_read header_bytes header_from record_size HeaderFits (λ h p. header_length h) header_read f.headers in
     λ i. record { control = read.0 i; spare = read.1 i; headers = headers i }
 
-pub length-headers : (xs : List ℕ) → length xs ≡ headersLength → length (drop recordSize xs) ≡ headerSlots * recordSize
-length-headers xs l = simp length-drop (omega arith)
+pub length_headers : (xs : List ℕ) → length xs ≡ headers_length → length (drop record_size xs) ≡ header_slots * record_size
+length_headers xs l = simp length-drop (omega arith)
 
-module _ (xs : List ℕ) (b : Bytes xs) (l : length xs ≡ headersLength) where
-  pub hs-written : headerTable (hsFrom xs) ≡ xs
-  unfolding hsFrom headerTable
-  hs-written =
+module _ (xs : List ℕ) (b : Bytes xs) (l : length xs ≡ headers_length) where
+  pub hs_written : header_table (hs_from xs) ≡ xs
+  unfolding hs_from header_table
+  hs_written =
       ap₂ (λ (p q : List ℕ). p ++ q)
-      (control-written (take recordSize xs) (bytes_take recordSize xs b) (length-take-le recordSize xs (omega arith)))
-      (parts-written headerBytes headerFrom recordSize header-written headerSlots (drop recordSize xs) (bytes_drop recordSize xs b) (length-headers xs l))
-      ∙ take-append-drop recordSize xs
+      (control_written (take record_size xs) (bytes-take record_size xs b) (length-take-le record_size xs (omega arith)))
+      (parts_written header_bytes header_from record_size header_written header_slots (drop record_size xs) (bytes-drop record_size xs b) (length_headers xs l))
+      ∙ take-append-drop record_size xs
 
-  pub hs-fits : HSFits (hsFrom xs)
-  unfolding hsFrom
-  hs-fits =
-      let ps = parts recordSize headerSlots (drop recordSize xs) in
+  pub hs_fits : HSFits (hs_from xs)
+  unfolding hs_from
+  hs_fits =
+      let ps = parts record_size header_slots (drop record_size xs) in
       record {
-        control = control-fits (take recordSize xs);
-        headers = parts-fit headerFrom recordSize HeaderFits (λ p bp lp. header-fits p) headerSlots (drop recordSize xs) (bytes_drop recordSize xs b) (length-headers xs l);
-        count = length-map ps headerFrom ∙ length-parts recordSize headerSlots (drop recordSize xs);
+        control = control_fits (take record_size xs);
+        headers = parts_fit header_from record_size HeaderFits (λ p bp lp. header_fits p) header_slots (drop record_size xs) (bytes-drop record_size xs b) (length_headers xs l);
+        count = length-map ps header_from ∙ length_parts record_size header_slots (drop record_size xs);
       }
 
-pub hs-same : (xs ys : List ℕ) → Bytes xs → Bytes ys → length xs ≡ headersLength → length ys ≡ headersLength → hsFrom xs ≡ hsFrom ys → xs ≡ ys
-hs-same xs ys bx by lx ly e = same-written headerTable hsFrom (hs-written xs bx lx) (hs-written ys by ly) e
+pub hs_same : (xs ys : List ℕ) → Bytes xs → Bytes ys → length xs ≡ headers_length → length ys ≡ headers_length → hs_from xs ≡ hs_from ys → xs ≡ ys
+hs_same xs ys bx by lx ly e = same_written header_table hs_from (hs_written xs bx lx) (hs_written ys by ly) e
 
 -- the page table
 
 module _ (b : Bank) where
-  pub ps-read : (ps : PS) → PSFits b ps → psFrom b (pageTable ps) ≡ ps
-  unfolding psFrom pageTable
-  ps-read ps f =
-      ap (λ (n : ℕ). map slotFrom (parts (slotSize b) n (joined (map slotBytes ps)))) (sym f.count)
-      ∙ parts-read slotBytes slotFrom (slotSize b) (SlotFits b) (slot-length b) (slot_read b) f.slots
+  pub ps_read : (ps : PS) → PSFits b ps → ps_from b (page_table ps) ≡ ps
+  unfolding ps_from page_table
+  ps_read ps f =
+      ap (λ (n : ℕ). map slot_from (parts (slot_size b) n (joined (map slot_bytes ps)))) (sym f.count)
+      ∙ parts_read slot_bytes slot_from (slot_size b) (SlotFits b) (slot_length b) (slot_read b) f.slots
 
-  pub ps-written : (xs : List ℕ) → Bytes xs → length xs ≡ pagesLength b → pageTable (psFrom b xs) ≡ xs
-  unfolding psFrom pageTable
-  ps-written = parts-written slotBytes slotFrom (slotSize b) (slot-written b) b.slots
+  pub ps_written : (xs : List ℕ) → Bytes xs → length xs ≡ pages_length b → page_table (ps_from b xs) ≡ xs
+  unfolding ps_from page_table
+  ps_written = parts_written slot_bytes slot_from (slot_size b) (slot_written b) b.slots
 
-  pub ps-same : (xs ys : List ℕ) → Bytes xs → Bytes ys → length xs ≡ pagesLength b → length ys ≡ pagesLength b → psFrom b xs ≡ psFrom b ys → xs ≡ ys
-  ps-same xs ys bx by lx ly e = same-written pageTable (psFrom b) (ps-written xs bx lx) (ps-written ys by ly) e
+  pub ps_same : (xs ys : List ℕ) → Bytes xs → Bytes ys → length xs ≡ pages_length b → length ys ≡ pages_length b → ps_from b xs ≡ ps_from b ys → xs ≡ ys
+  ps_same xs ys bx by lx ly e = same_written page_table (ps_from b) (ps_written xs bx lx) (ps_written ys by ly) e
 
-  pub ps-fits : (xs : List ℕ) → Bytes xs → length xs ≡ pagesLength b → PSFits b (psFrom b xs)
-  unfolding psFrom
-  ps-fits xs bx l = record {
-    slots = parts-fit slotFrom (slotSize b) (SlotFits b) (slot-fits b) b.slots xs bx l;
-    count = length-map (parts (slotSize b) b.slots xs) slotFrom ∙ length-parts (slotSize b) b.slots xs;
+  pub ps_fits : (xs : List ℕ) → Bytes xs → length xs ≡ pages_length b → PSFits b (ps_from b xs)
+  unfolding ps_from
+  ps_fits xs bx l = record {
+    slots = parts_fit slot_from (slot_size b) (SlotFits b) (slot_fits b) b.slots xs bx l;
+    count = length-map (parts (slot_size b) b.slots xs) slot_from ∙ length_parts (slot_size b) b.slots xs;
   }
 
-  pub tables-same : (hx hy px py : List ℕ) → Bytes hx → Bytes hy → Bytes px → Bytes py → length hx ≡ headersLength → length hy ≡ headersLength → length px ≡ pagesLength b
-      → length py ≡ pagesLength b → tablesFrom b hx px ≡ tablesFrom b hy py → (hx ≡ hy) × (px ≡ py)
-  tables-same hx hy px py bhx bhy bpx bpy lhx lhy lpx lpy e =
-      (hs-same hx hy bhx bhy lhx lhy (ap (λ (t : Tables). t.hs) e), ps-same px py bpx bpy lpx lpy (ap (λ (t : Tables). t.ps) e))
+  pub tables_same : (hx hy px py : List ℕ) → Bytes hx → Bytes hy → Bytes px → Bytes py → length hx ≡ headers_length → length hy ≡ headers_length → length px ≡ pages_length b
+      → length py ≡ pages_length b → tables_from b hx px ≡ tables_from b hy py → (hx ≡ hy) × (px ≡ py)
+  tables_same hx hy px py bhx bhy bpx bpy lhx lhy lpx lpy e =
+      (hs_same hx hy bhx bhy lhx lhy (ap (λ (t : Tables). t.hs) e), ps_same px py bpx bpy lpx lpy (ap (λ (t : Tables). t.ps) e))

@@ -4,19 +4,19 @@ use Rattle.bits.specs.Field.{Within, Bytes}
 use Rattle.paper.specs.declared.Control.{Control}
 use Rattle.paper.specs.declared.FileId.{FileId}
 use Rattle.paper.specs.declared.Header.{Header}
-use Rattle.paper.specs.Tables.{Bank, Slot, HS, PS, headerSlots}
-use Rattle.paper.specs.Bytes.{controlLayout, controlValues, headerLayout, headerValues, slotLayout, slotValues}
+use Rattle.paper.specs.Tables.{Bank, Slot, HS, PS, header_slots}
+use Rattle.paper.specs.Bytes.{control_layout, control_values, header_layout, header_values, slot_layout, slot_values}
 use Rattle.records.specs.declared.SlotHead.{SlotHead}
 use Rattle.records.specs.declared.HeaderKey.{HeaderKey}
 
 abbrev pub ControlFits : Control → ℕ → Type 0
-ControlFits c spare = Within controlLayout (controlValues c spare)
+ControlFits c spare = Within control_layout (control_values c spare)
 
 abbrev pub HeaderFits : Header → Type 0
-HeaderFits h = Within headerLayout (headerValues h)
+HeaderFits h = Within header_layout (header_values h)
 
 pub record SlotFits (b : Bank) (s : Slot) : Type 0 where
-  pub values : Within slotLayout (slotValues s)
+  pub values : Within slot_layout (slot_values s)
   pub contents : Bytes s.contents
   pub size : length s.contents ≡ b.size
 
@@ -28,7 +28,7 @@ module _ {A : Type 0} where
 pub record HSFits (s : HS) : Type 0 where
   pub control : ControlFits s.control s.spare
   pub headers : Each HeaderFits s.headers
-  pub count : length s.headers ≡ headerSlots
+  pub count : length s.headers ≡ header_slots
 
 pub record PSFits (b : Bank) (ps : PS) : Type 0 where
   pub slots : Each (SlotFits b) ps
@@ -37,12 +37,12 @@ pub record PSFits (b : Bank) (ps : PS) : Type 0 where
 abbrev pub head_of : Slot → SlotHead
 head_of s = record { used = s.used; spare = s.spare; expires = s.expires }
 
-abbrev pub slotWith : SlotHead → List ℕ → Slot
-slotWith h page = record { used = h.used; spare = h.spare; expires = h.expires; contents = page }
+abbrev pub slot_with : SlotHead → List ℕ → Slot
+slot_with h page = record { used = h.used; spare = h.spare; expires = h.expires; contents = page }
 
 abbrev pub key_of : Header → HeaderKey
 key_of h = record { used = h.used; expires = h.expires }
 
 -- in use under this id
-abbrev pub inUseAs : FileId → Header → Bool
-inUseAs id h = h.used && eqb h.id.0 id.0
+abbrev pub in_use_as : FileId → Header → Bool
+in_use_as id h = h.used && eqb h.id.0 id.0

@@ -2,8 +2,8 @@
 ghost use Rattle.std.specs.Prelude.{◌≡◌, ◌+◌, ◌*◌, ◌-◌, ◌≤◌, ◌<◌, length, take, drop, replicate, ◌++◌};
 ghost use Rattle.paper.specs.Stores.{expiring};
 ghost use Rattle.bits.specs.Field.{be, pack, splice, nines, Within};
-ghost use Rattle.paper.specs.Bytes.{controlFrom, spareFrom, controlBytes, headerFrom, headerBytes, slotFrom, slotBytes, ids_of, bit};
-ghost use Rattle.records.specs.Fits.{HeaderFits, head_of, key_of, slotWith, inUseAs};
+ghost use Rattle.paper.specs.Bytes.{control_from, spare_from, control_bytes, header_from, header_bytes, slot_from, slot_bytes, ids_of, bit};
+ghost use Rattle.records.specs.Fits.{HeaderFits, head_of, key_of, slot_with, in_use_as};
 
 use paper::{Control, FileId, Header, PageId};
 
@@ -17,7 +17,7 @@ pub struct SlotHead {
 
 pub fn control(headers: &[u8]) -> Control
     requires { 36 ≤ length headers.now }
-    ensures { result ≡ controlFrom (take 36 headers.now) }
+    ensures { result ≡ control_from (take 36 headers.now) }
 {
     let r = &headers[0..36];
     Control {
@@ -29,7 +29,7 @@ pub fn control(headers: &[u8]) -> Control
 // The spare bits stay as they are.
 pub fn put_control(headers: &mut [u8], c: Control)
     requires { 36 ≤ length headers.old }
-    ensures { headers.new ≡ splice 0 (controlBytes c (spareFrom (take 36 headers.old))) headers.old }
+    ensures { headers.new ≡ splice 0 (control_bytes c (spare_from (take 36 headers.old))) headers.old }
 {
     bits::put32(headers, 0, c.next);
     bits::put32(headers, 4, c.clock);
@@ -38,7 +38,7 @@ pub fn put_control(headers: &mut [u8], c: Control)
 // The sixteen page ids of a header record's own 36 bytes.
 fn unpack_pages(r: &[u8]) -> [PageId; 16]
     requires { length r.now ≡ 36 }
-    ensures { result ≡ (headerFrom r.now).pages }
+    ensures { result ≡ (header_from r.now).pages }
 {
     let mut pages = [PageId(0); 16];
     for k in 0..16 {
@@ -49,7 +49,7 @@ fn unpack_pages(r: &[u8]) -> [PageId; 16]
 
 fn unpack_header(r: &[u8]) -> Header
     requires { length r.now ≡ 36 }
-    ensures { result ≡ headerFrom r.now }
+    ensures { result ≡ header_from r.now }
 {
     let word = bits::be32(r, 0);
     let owner = bits::be16(r, 4);
@@ -71,7 +71,7 @@ fn unpack_header(r: &[u8]) -> Header
 // Header slot n starts at n records from the table's start, since the control record stands first.
 pub fn header(headers: &[u8], n: usize) -> Header
     requires { n * 36 + 36 ≤ length headers.now }
-    ensures { result ≡ headerFrom (take 36 (drop (n * 36) headers.now)) }
+    ensures { result ≡ header_from (take 36 (drop (n * 36) headers.now)) }
 {
     let a = n * 36;
     let e = a + 36;
@@ -124,7 +124,7 @@ fn pack_pages(r: &mut [u8], pages: [PageId; 16])
 
 fn pack_header(r: &mut [u8], h: Header)
     requires { (length r.old ≡ 36) × HeaderFits h }
-    ensures { r.new ≡ headerBytes h }
+    ensures { r.new ≡ header_bytes h }
 {
     let id = h.id;
     let pages = h.pages;
@@ -135,7 +135,7 @@ fn pack_header(r: &mut [u8], h: Header)
 
 pub fn put_header(headers: &mut [u8], n: usize, h: Header)
     requires { (n * 36 + 36 ≤ length headers.old) × HeaderFits h }
-    ensures { headers.new ≡ splice (n * 36) (headerBytes h) headers.old }
+    ensures { headers.new ≡ splice (n * 36) (header_bytes h) headers.old }
 {
     let a = n * 36;
     let e = a + 36;
@@ -144,7 +144,7 @@ pub fn put_header(headers: &mut [u8], n: usize, h: Header)
 
 fn unpack_slot(s: &[u8]) -> SlotHead
     requires { 8 ≤ length s.now }
-    ensures { result ≡ head_of (slotFrom s.now) }
+    ensures { result ≡ head_of (slot_from s.now) }
 {
     let r = &s[0..8];
     let word = bits::be32(r, 0);
@@ -158,7 +158,7 @@ fn unpack_slot(s: &[u8]) -> SlotHead
 // Slot n of a page table whose slots have `size` bytes of contents; slots are numbered from 1.
 pub fn slot(pages: &[u8], size: usize, n: usize) -> SlotHead
     requires { (1 ≤ n) × ((n - 1) * (8 + size) + (8 + size) ≤ length pages.now) }
-    ensures { result ≡ head_of (slotFrom (take (8 + size) (drop ((n - 1) * (8 + size)) pages.now))) }
+    ensures { result ≡ head_of (slot_from (take (8 + size) (drop ((n - 1) * (8 + size)) pages.now))) }
 {
     let a = (n - 1) * (8 + size);
     let e = a + (8 + size);
@@ -168,7 +168,7 @@ pub fn slot(pages: &[u8], size: usize, n: usize) -> SlotHead
 // The slot's contents where they lie.
 pub fn contents(pages: &[u8], size: usize, n: usize) -> &[u8]
     requires { (1 ≤ n) × ((n - 1) * (8 + size) + (8 + size) ≤ length pages.now) }
-    ensures { result.now ≡ (slotFrom (take (8 + size) (drop ((n - 1) * (8 + size)) pages.now))).contents }
+    ensures { result.now ≡ (slot_from (take (8 + size) (drop ((n - 1) * (8 + size)) pages.now))).contents }
 {
     let a = (n - 1) * (8 + size);
     let e = a + (8 + size);
@@ -178,7 +178,7 @@ pub fn contents(pages: &[u8], size: usize, n: usize) -> &[u8]
 
 fn pack_slot(s: &mut [u8], head: SlotHead, page: &[u8])
     requires { (length s.old ≡ 8 + length page.now) × (head.spare < 2147483648) }
-    ensures { s.new ≡ slotBytes (slotWith head page.now) }
+    ensures { s.new ≡ slot_bytes (slot_with head page.now) }
 {
     bits::put32(s, 0, first_word(head.used, head.spare));
     bits::put32(s, 4, head.expires);
@@ -189,7 +189,7 @@ fn pack_slot(s: &mut [u8], head: SlotHead, page: &[u8])
 pub fn put_slot(pages: &mut [u8], size: usize, n: usize, head: SlotHead, page: &[u8])
     requires le_n { (1 ≤ n) × ((n - 1) * (8 + size) + (8 + size) ≤ length pages.old) }
     requires page_len { (length page.now ≡ size) × (head.spare < 2147483648) }
-    ensures { pages.new ≡ splice ((n - 1) * (8 + size)) (slotBytes (slotWith head page.now)) pages.old }
+    ensures { pages.new ≡ splice ((n - 1) * (8 + size)) (slot_bytes (slot_with head page.now)) pages.old }
 {
     let a = (n - 1) * (8 + size);
     let e = a + (8 + size);
@@ -198,7 +198,7 @@ pub fn put_slot(pages: &mut [u8], size: usize, n: usize, head: SlotHead, page: &
 
 fn renew(s: &mut [u8], expires: u32)
     requires { 8 ≤ length s.old }
-    ensures { s.new ≡ slotBytes (expiring expires (slotFrom s.old)) }
+    ensures { s.new ≡ slot_bytes (expiring expires (slot_from s.old)) }
 {
     bits::put32(s, 4, expires);
 }
@@ -206,7 +206,7 @@ fn renew(s: &mut [u8], expires: u32)
 // Slot n with another expiry.
 pub fn put_expires(pages: &mut [u8], size: usize, n: usize, expires: u32)
     requires { (1 ≤ n) × ((n - 1) * (8 + size) + (8 + size) ≤ length pages.old) }
-    ensures { pages.new ≡ splice ((n - 1) * (8 + size)) (slotBytes (expiring expires (slotFrom (take (8 + size) (drop ((n - 1) * (8 + size)) pages.old))))) pages.old }
+    ensures { pages.new ≡ splice ((n - 1) * (8 + size)) (slot_bytes (expiring expires (slot_from (take (8 + size) (drop ((n - 1) * (8 + size)) pages.old))))) pages.old }
 {
     let a = (n - 1) * (8 + size);
     let e = a + (8 + size);
@@ -253,7 +253,7 @@ pub struct HeaderKey {
 
 fn unpack_key(r: &[u8]) -> HeaderKey
     requires { length r.now ≡ 36 }
-    ensures { result ≡ key_of (headerFrom r.now) }
+    ensures { result ≡ key_of (header_from r.now) }
 {
     let word = bits::be32(r, 0);
     HeaderKey {
@@ -264,7 +264,7 @@ fn unpack_key(r: &[u8]) -> HeaderKey
 
 pub fn header_key(headers: &[u8], n: usize) -> HeaderKey
     requires { n * 36 + 36 ≤ length headers.now }
-    ensures { result ≡ key_of (headerFrom (take 36 (drop (n * 36) headers.now))) }
+    ensures { result ≡ key_of (header_from (take 36 (drop (n * 36) headers.now))) }
 {
     let a = n * 36;
     let e = a + 36;
@@ -274,7 +274,7 @@ pub fn header_key(headers: &[u8], n: usize) -> HeaderKey
 // By the first word as a whole: taken apart, or its first bit tested alone, it would be loaded byte by byte.
 fn word_is(r: &[u8], id: FileId) -> bool
     requires { length r.now ≡ 36 }
-    ensures { result ≡ inUseAs id (headerFrom r.now) }
+    ensures { result ≡ in_use_as id (header_from r.now) }
 {
     if id.0 > 2147483647 {
         return false;
@@ -285,7 +285,7 @@ fn word_is(r: &[u8], id: FileId) -> bool
 // Whether header slot n is in use under this id, all that a search by id asks of most slots.
 pub fn in_use_as(headers: &[u8], n: usize, id: FileId) -> bool
     requires { n * 36 + 36 ≤ length headers.now }
-    ensures { result ≡ inUseAs id (headerFrom (take 36 (drop (n * 36) headers.now))) }
+    ensures { result ≡ in_use_as id (header_from (take 36 (drop (n * 36) headers.now))) }
 {
     let a = n * 36;
     let e = a + 36;

@@ -15,13 +15,13 @@ use Rattle.paper.specs.declared.Step.TheVariants.{Gone, Refused, Cut}
 use Rattle.paper.specs.declared.FileId.{FileId}
 use Rattle.paper.specs.declared.Header.{Header}
 use Rattle.paper.specs.declared.Answer.{Answer}
-use Rattle.paper.specs.Ids.{fileId}
+use Rattle.paper.specs.Ids.{file_id}
 use Rattle.paper.specs.Tables.{HS, PS, Tables, header_at}
-use Rattle.paper.specs.Stores.{Try, readHeader}
-use Rattle.paper.specs.Steps.{State, Run, on, end, Steps, follow, ◌>>=◌, ◌>>◌, give, ask, refuse, check, settle, step, marked, headerStep, onHeaders}
-use Rattle.paper.specs.Answers.{Report, Gift, anId, succeeded, refused, pageAfter, report}
-use Rattle.paper.specs.Requests.{replyOf, headerIn, checkOwner}
-use Rattle.stores.specs.Geometry.{lentAfter}
+use Rattle.paper.specs.Stores.{Try, read_header}
+use Rattle.paper.specs.Steps.{State, Run, on, end, Steps, follow, ◌>>=◌, ◌>>◌, give, ask, refuse, check, settle, step, marked, header_step, on_headers}
+use Rattle.paper.specs.Answers.{Report, Gift, an_id, succeeded, refused, page_after, report}
+use Rattle.paper.specs.Requests.{reply_of, header_in, check_owner}
+use Rattle.stores.specs.Geometry.{lent_after}
 use Rattle.requests.specs.Seen.{Shown, shown, shows}
 use Rattle.rows.specs.Ends.{standing, told}
 use Rattle.rows.specs.Rows.{opening}
@@ -38,33 +38,33 @@ abbrev seen : Report → List ℕ → Tables → Shown
 seen r page t = record { report = r; page = page; tables = t }
 
 module _ (os lent : List ℕ) (s : State) where
-  stopped : (r : Step) (f : ℕ → Steps Gift) → Stopped r → seen (told r) lent s.tables ≡ shown (replyOf lent (follow (settle r s) os f))
-  unfolding replyOf follow settle
+  stopped : (r : Step) (f : ℕ → Steps Gift) → Stopped r → seen (told r) lent s.tables ≡ shown (reply_of lent (follow (settle r s) os f))
+  unfolding reply_of follow settle
   stopped (Gone n) f h = ⊎_elim (λ e. absurd (omega arith)) (λ e. absurd (omega arith)) h
   stopped (Refused a) f h = refl
   stopped Cut f h = refl
 
-  header-stopped : (r : Step) (f : ℕ → Steps Gift) → Stopped r → seen (told r) lent s.tables ≡ shown (replyOf lent (follow (marked (settle r s)) os f))
-  unfolding replyOf follow settle marked
-  header-stopped (Gone n) f h = ⊎_elim (λ e. absurd (omega arith)) (λ e. absurd (omega arith)) h
-  header-stopped (Refused a) f h = refl
-  header-stopped Cut f h = refl
+  header_stopped : (r : Step) (f : ℕ → Steps Gift) → Stopped r → seen (told r) lent s.tables ≡ shown (reply_of lent (follow (marked (settle r s)) os f))
+  unfolding reply_of follow settle marked
+  header_stopped (Gone n) f h = ⊎_elim (λ e. absurd (omega arith)) (λ e. absurd (omega arith)) h
+  header_stopped (Refused a) f h = refl
+  header_stopped Cut f h = refl
 
-  header-finished : (r : Step) → seen (told r) lent s.tables ≡ shown (replyOf lent (follow (marked (settle r s)) os (λ i. give (anId (fileId i)))))
-  unfolding replyOf follow settle marked give
-  header-finished (Gone n) = refl
-  header-finished (Refused a) = refl
-  header-finished Cut = refl
+  header_finished : (r : Step) → seen (told r) lent s.tables ≡ shown (reply_of lent (follow (marked (settle r s)) os (λ i. give (an_id (file_id i)))))
+  unfolding reply_of follow settle marked give
+  header_finished (Gone n) = refl
+  header_finished (Refused a) = refl
+  header_finished Cut = refl
 
 -- a page lent to a step that did not go through
-pub lent-kept : (r : Step) (c l : List ℕ) → Stopped r → lentAfter r c l ≡ l
-lent-kept (Gone n) c l h = ⊎_elim (λ e. absurd (omega arith)) (λ e. absurd (omega arith)) h
-lent-kept (Refused a) c l h = refl
-lent-kept Cut c l h = refl
+pub lent_kept : (r : Step) (c l : List ℕ) → Stopped r → lent_after r c l ≡ l
+lent_kept (Gone n) c l h = ⊎_elim (λ e. absurd (omega arith)) (λ e. absurd (omega arith)) h
+lent_kept (Refused a) c l h = refl
+lent_kept Cut c l h = refl
 
 -- the caller of a request that takes these steps from s on sees v
 abbrev pub Sees : List ℕ → List ℕ → Steps Gift → State → Shown → Type 0
-Sees os lent m s v = v ≡ shown (replyOf lent (m os s))
+Sees os lent m s v = v ≡ shown (reply_of lent (m os s))
 
 module _ (os lent : List ℕ) where
   module _ (s s' : State) (r : Step) where
@@ -75,47 +75,47 @@ module _ (os lent : List ℕ) where
 
       pub stops : (a : Answer) → Stopped r → report a ≡ told r → Sees os lent (m >>= f) s (shows a lent s'.tables)
       unfolding ◌>>=◌
-      stops a h t = ap (λ (q : Report). seen q lent s'.tables) t ∙ stopped os lent s' r f h ∙ ap (λ (q : Run ℕ). shown (replyOf lent (follow q os f))) e
+      stops a h t = ap (λ (q : Report). seen q lent s'.tables) t ∙ stopped os lent s' r f h ∙ ap (λ (q : Run ℕ). shown (reply_of lent (follow q os f))) e
 
-    module _ (f : HS → Try HS) (e : settle r s' ≡ step (onHeaders f) os s) where
+    module _ (f : HS → Try HS) (e : settle r s' ≡ step (on_headers f) os s) where
       module _ (g : ℕ → Steps Gift) where
-        pub header-goes-on : (n : ℕ) (v : Shown) → r ≡ Gone n → Sees os lent (g n) (marking s') v → Sees os lent (headerStep f >>= g) s v
-        unfolding ◌>>=◌ follow settle marked headerStep
-        header-goes-on n v i h = rw (← e, i) h
+        pub header_goes_on : (n : ℕ) (v : Shown) → r ≡ Gone n → Sees os lent (g n) (marking s') v → Sees os lent (header_step f >>= g) s v
+        unfolding ◌>>=◌ follow settle marked header_step
+        header_goes_on n v i h = rw (← e, i) h
 
-        pub header-stops : (a : Answer) → Stopped r → report a ≡ told r → Sees os lent (headerStep f >>= g) s (shows a lent s'.tables)
-        unfolding ◌>>=◌ headerStep
-        header-stops a h t =
-            ap (λ (q : Report). seen q lent s'.tables) t ∙ header-stopped os lent s' r g h ∙ ap (λ (q : Run ℕ). shown (replyOf lent (follow (marked q) os g))) e
+        pub header_stops : (a : Answer) → Stopped r → report a ≡ told r → Sees os lent (header_step f >>= g) s (shows a lent s'.tables)
+        unfolding ◌>>=◌ header_step
+        header_stops a h t =
+            ap (λ (q : Report). seen q lent s'.tables) t ∙ header_stopped os lent s' r g h ∙ ap (λ (q : Run ℕ). shown (reply_of lent (follow (marked q) os g))) e
 
       -- the header step is the last, and its id is given
-      pub finishes : (a : Answer) → report a ≡ told r → Sees os lent (headerStep f >>= λ i. give (anId (fileId i))) s (shows a lent s'.tables)
-      unfolding ◌>>=◌ headerStep
+      pub finishes : (a : Answer) → report a ≡ told r → Sees os lent (header_step f >>= λ i. give (an_id (file_id i))) s (shows a lent s'.tables)
+      unfolding ◌>>=◌ header_step
       finishes a t =
-          ap (λ (q : Report). seen q lent s'.tables) t ∙ header-finished os lent s' r
-          ∙ ap (λ (q : Run ℕ). shown (replyOf lent (follow (marked q) os (λ i. give (anId (fileId i)))))) e
+          ap (λ (q : Report). seen q lent s'.tables) t ∙ header_finished os lent s' r
+          ∙ ap (λ (q : Run ℕ). shown (reply_of lent (follow (marked q) os (λ i. give (an_id (file_id i)))))) e
 
   module _ (s : State) where
     pub asks : {A : Type 0} (g : Tables → A) (f : A → Steps Gift) (v : Shown) → Sees os lent (f (g s.tables)) s v → Sees os lent (ask g >>= f) s v
     unfolding ◌>>=◌ follow ask
     asks g f v h = h
 
-    pub gives : (g : Gift) → Sees os lent (give g) s (seen (succeeded g) (pageAfter g lent) s.tables)
-    unfolding give replyOf
+    pub gives : (g : Gift) → Sees os lent (give g) s (seen (succeeded g) (page_after g lent) s.tables)
+    unfolding give reply_of
     gives g = refl
 
     module _ (c : Bool) (a : ℕ) (m : Steps Gift) where
-      pub passes-check : (v : Shown) → c ≡ true → Sees os lent m s v → Sees os lent (check c a >> m) s v
+      pub passes_check : (v : Shown) → c ≡ true → Sees os lent m s v → Sees os lent (check c a >> m) s v
       unfolding ◌>>◌ ◌>>=◌ follow check give
-      passes-check v e h = rw e h
+      passes_check v e h = rw e h
 
-      pub fails-check : c ≡ false → Sees os lent (check c a >> m) s (seen (refused a) lent s.tables)
-      unfolding ◌>>◌ ◌>>=◌ follow check refuse replyOf
-      fails-check e = rw e
+      pub fails_check : c ≡ false → Sees os lent (check c a >> m) s (seen (refused a) lent s.tables)
+      unfolding ◌>>◌ ◌>>=◌ follow check refuse reply_of
+      fails_check e = rw e
 
-    pub gives-on : {A : Type 0} (a : A) (f : A → Steps Gift) (v : Shown) → Sees os lent (f a) s v → Sees os lent (give a >>= f) s v
+    pub gives_on : {A : Type 0} (a : A) (f : A → Steps Gift) (v : Shown) → Sees os lent (f a) s v → Sees os lent (give a >>= f) s v
     unfolding ◌>>=◌ follow give
-    gives-on a f v h = h
+    gives_on a f v h = h
 
   module _ {A B : Type 0} (m : Steps A) (f : A → Steps B) (g : B → Steps Gift) where
     regrouped : (x : Run A) → follow x os (λ a. (f a >>= g)) ≡ follow (follow x os f) os g
@@ -125,30 +125,30 @@ module _ (os lent : List ℕ) where
 
     pub regroups : (s : State) (v : Shown) → Sees os lent (m >>= λ a. (f a >>= g)) s v → Sees os lent (m >>= f >>= g) s v
     unfolding ◌>>=◌
-    regroups s v h = h ∙ ap (λ (x : Run Gift). shown (replyOf lent x)) (regrouped (m os s))
+    regroups s v h = h ∙ ap (λ (x : Run Gift). shown (reply_of lent x)) (regrouped (m os s))
 
   -- a request that reads a header, checks its owner and goes on with f
   module _ (time client : ℕ) (id : FileId) (f : ℕ → Header → Steps Gift) where
     abbrev pub owning : Steps Gift
-    owning = step (onHeaders (readHeader time id)) >>= λ n. ask (headerIn n) >>= λ h. checkOwner client h >> f n h
+    owning = step (on_headers (read_header time id)) >>= λ n. ask (header_in n) >>= λ h. check_owner client h >> f n h
 
-    opened : (x : Run ℕ) → follow x os (λ n. ask (headerIn n) >>= λ h. checkOwner client h >> f n h)
-        ≡ follow (follow x os (λ n. ask (headerIn n) >>= λ h. checkOwner client h >> give n)) os (λ n. ask (headerIn n) >>= f n)
+    opened : (x : Run ℕ) → follow x os (λ n. ask (header_in n) >>= λ h. check_owner client h >> f n h)
+        ≡ follow (follow x os (λ n. ask (header_in n) >>= λ h. check_owner client h >> give n)) os (λ n. ask (header_in n) >>= f n)
     unfolding ◌>>=◌ ◌>>◌ follow ask check give refuse
-    opened (on n s) = go (eqb (headerIn n s.tables).owner client)
+    opened (on n s) = go (eqb (header_in n s.tables).owner client)
       where
-        go : (c : Bool) → follow (check c 5 os s) os (λ _. f n (headerIn n s.tables)) ≡ follow (follow (check c 5 os s) os (λ _. give n)) os (λ m. ask (headerIn m) >>= f m)
+        go : (c : Bool) → follow (check c 5 os s) os (λ _. f n (header_in n s.tables)) ≡ follow (follow (check c 5 os s) os (λ _. give n)) os (λ m. ask (header_in m) >>= f m)
         go true = refl
         go false = refl
     opened (end a s) = refl
 
     module _ (hs : HS) (ps : PS) (r : Step) (e : settle r (standing 1 false hs ps) ≡ opening time client id os (standing 0 false hs ps)) where
-      opens : (v : Shown) → Sees os lent (opening time client id >>= λ n. ask (headerIn n) >>= f n) (standing 0 false hs ps) v → Sees os lent owning (standing 0 false hs ps) v
+      opens : (v : Shown) → Sees os lent (opening time client id >>= λ n. ask (header_in n) >>= f n) (standing 0 false hs ps) v → Sees os lent owning (standing 0 false hs ps) v
       unfolding opening ◌>>=◌
-      opens v h = h ∙ sym (ap (λ (x : Run Gift). shown (replyOf lent x)) (opened (step (onHeaders (readHeader time id)) os (standing 0 false hs ps))))
+      opens v h = h ∙ sym (ap (λ (x : Run Gift). shown (reply_of lent x)) (opened (step (on_headers (read_header time id)) os (standing 0 false hs ps))))
 
-      pub open-stops : (a : Answer) → Stopped r → report a ≡ told r → Sees os lent owning (standing 0 false hs ps) (shows a lent (record { hs = hs; ps = ps }))
-      open-stops a h t = opens _ (stops (standing 0 false hs ps) (standing 1 false hs ps) r (opening time client id) (λ n. ask (headerIn n) >>= f n) e a h t)
+      pub open_stops : (a : Answer) → Stopped r → report a ≡ told r → Sees os lent owning (standing 0 false hs ps) (shows a lent (record { hs = hs; ps = ps }))
+      open_stops a h t = opens _ (stops (standing 0 false hs ps) (standing 1 false hs ps) r (opening time client id) (λ n. ask (header_in n) >>= f n) e a h t)
 
-      pub open-goes-on : (n : ℕ) (v : Shown) → r ≡ Gone n → Sees os lent (f n (header_at hs n)) (standing 1 false hs ps) v → Sees os lent owning (standing 0 false hs ps) v
-      open-goes-on n v g h = opens v (goes_on (standing 0 false hs ps) (standing 1 false hs ps) r (opening time client id) (λ n. ask (headerIn n) >>= f n) e n v g (asks (standing 1 false hs ps) (headerIn n) (f n) v h))
+      pub open_goes_on : (n : ℕ) (v : Shown) → r ≡ Gone n → Sees os lent (f n (header_at hs n)) (standing 1 false hs ps) v → Sees os lent owning (standing 0 false hs ps) v
+      open_goes_on n v g h = opens v (goes_on (standing 0 false hs ps) (standing 1 false hs ps) r (opening time client id) (λ n. ask (header_in n) >>= f n) e n v g (asks (standing 1 false hs ps) (header_in n) (f n) v h))

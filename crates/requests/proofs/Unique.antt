@@ -10,8 +10,8 @@ use Rattle.bits.specs.Field.{Bytes}
 use Rattle.paper.specs.declared.Answer.{Answer}
 use Rattle.paper.specs.Tables.{Bank}
 use Rattle.paper.specs.Answers.{report}
-use Rattle.paper.specs.Bytes.{headersLength, pagesLength, tablesFrom}
-use Rattle.records.proofs.Tables.{hs-same, ps-same}
+use Rattle.paper.specs.Bytes.{headers_length, pages_length, tables_from}
+use Rattle.records.proofs.Tables.{hs_same, ps_same}
 use Rattle.stores.specs.Geometry.{bank}
 use Rattle.requests.specs.Seen.{Shown, shows}
 use Rattle.requests.proofs.create.Reads as create
@@ -28,57 +28,57 @@ use Rattle.requests.proofs.look.named_page.Reads as named-page
 abbrev pub Table : ℕ → List ℕ → Type 0
 Table n xs = Bytes xs × (length xs ≡ n)
 
-module _ (b : Bank) (d : Shown) (a a' : Answer) (lent lent' hx hx' px px' : List ℕ) (p : shows a lent (tablesFrom b hx px) ≡ d) (q : shows a' lent' (tablesFrom b hx' px') ≡ d) where
-  one : shows a lent (tablesFrom b hx px) ≡ shows a' lent' (tablesFrom b hx' px')
+module _ (b : Bank) (d : Shown) (a a' : Answer) (lent lent' hx hx' px px' : List ℕ) (p : shows a lent (tables_from b hx px) ≡ d) (q : shows a' lent' (tables_from b hx' px') ≡ d) where
+  one : shows a lent (tables_from b hx px) ≡ shows a' lent' (tables_from b hx' px')
   one = p ∙ sym q
 
   one_answer : (report a ≡ report a') × (lent ≡ lent')
   one_answer = (ap (λ (k : Shown). k.report) one, ap (λ (k : Shown). k.page) one)
 
-  one-header-table : Table headersLength hx → Table headersLength hx' → hx ≡ hx'
-  one-header-table t t' = hs-same hx hx' t.0 t'.0 t.1 t'.1 (ap (λ (k : Shown). k.tables.hs) one)
+  one_header_table : Table headers_length hx → Table headers_length hx' → hx ≡ hx'
+  one_header_table t t' = hs_same hx hx' t.0 t'.0 t.1 t'.1 (ap (λ (k : Shown). k.tables.hs) one)
 
-  one-page-table : Table (pagesLength b) px → Table (pagesLength b) px' → px ≡ px'
-  one-page-table t t' = ps-same b px px' t.0 t'.0 t.1 t'.1 (ap (λ (k : Shown). k.tables.ps) one)
+  one_page_table : Table (pages_length b) px → Table (pages_length b) px' → px ≡ px'
+  one_page_table t t' = ps_same b px px' t.0 t'.0 t.1 t'.1 (ap (λ (k : Shown). k.tables.ps) one)
 
-pub create-one : (κs : Lfts 4) (a r r' s s' : _) → create.Learnt κs a r s → create.Learnt κs a r' s' → Table headersLength s.0.now → Table headersLength s'.0.now
-    → Table (pagesLength (bank a.1.1.0 a.1.1.1.0)) s.1.0.now → Table (pagesLength (bank a.1.1.0 a.1.1.1.0)) s'.1.0.now
+pub create_one : (κs : Lfts 4) (a r r' s s' : _) → create.Learnt κs a r s → create.Learnt κs a r' s' → Table headers_length s.0.now → Table headers_length s'.0.now
+    → Table (pages_length (bank a.1.1.0 a.1.1.1.0)) s.1.0.now → Table (pages_length (bank a.1.1.0 a.1.1.1.0)) s'.1.0.now
     → (report r ≡ report r') × (s.0.now ≡ s'.0.now) × (s.1.0.now ≡ s'.1.0.now)
-create-one κs a r r' s s' p q t t' v v' = ((one_answer (bank a.1.1.0 a.1.1.1.0) _ r r' _ _ _ _ _ _ p q).0, one-header-table (bank a.1.1.0 a.1.1.1.0) _ r r' _ _ _ _ _ _ p q t t', one-page-table (bank a.1.1.0 a.1.1.1.0) _ r r' _ _ _ _ _ _ p q v v')
+create_one κs a r r' s s' p q t t' v v' = ((one_answer (bank a.1.1.0 a.1.1.1.0) _ r r' _ _ _ _ _ _ p q).0, one_header_table (bank a.1.1.0 a.1.1.1.0) _ r r' _ _ _ _ _ _ p q t t', one_page_table (bank a.1.1.0 a.1.1.1.0) _ r r' _ _ _ _ _ _ p q v v')
 
-pub write-one : (κs : Lfts 4) (a r r' s s' : _) → write.Learnt κs a r s → write.Learnt κs a r' s' → Table headersLength s.0.now → Table headersLength s'.0.now
-    → Table (pagesLength (bank a.1.1.0 a.1.1.1.0)) s.1.0.now → Table (pagesLength (bank a.1.1.0 a.1.1.1.0)) s'.1.0.now
+pub write_one : (κs : Lfts 4) (a r r' s s' : _) → write.Learnt κs a r s → write.Learnt κs a r' s' → Table headers_length s.0.now → Table headers_length s'.0.now
+    → Table (pages_length (bank a.1.1.0 a.1.1.1.0)) s.1.0.now → Table (pages_length (bank a.1.1.0 a.1.1.1.0)) s'.1.0.now
     → (report r ≡ report r') × (s.0.now ≡ s'.0.now) × (s.1.0.now ≡ s'.1.0.now)
-write-one κs a r r' s s' p q t t' v v' = ((one_answer (bank a.1.1.0 a.1.1.1.0) _ r r' _ _ _ _ _ _ p q).0, one-header-table (bank a.1.1.0 a.1.1.1.0) _ r r' _ _ _ _ _ _ p q t t', one-page-table (bank a.1.1.0 a.1.1.1.0) _ r r' _ _ _ _ _ _ p q v v')
+write_one κs a r r' s s' p q t t' v v' = ((one_answer (bank a.1.1.0 a.1.1.1.0) _ r r' _ _ _ _ _ _ p q).0, one_header_table (bank a.1.1.0 a.1.1.1.0) _ r r' _ _ _ _ _ _ p q t t', one_page_table (bank a.1.1.0 a.1.1.1.0) _ r r' _ _ _ _ _ _ p q v v')
 
-pub read_one : (κs : Lfts 4) (a r r' s s' : _) → read.Learnt κs a r s → read.Learnt κs a r' s' → Table headersLength s.0.now → Table headersLength s'.0.now
+pub read_one : (κs : Lfts 4) (a r r' s s' : _) → read.Learnt κs a r s → read.Learnt κs a r' s' → Table headers_length s.0.now → Table headers_length s'.0.now
     → (report r ≡ report r') × (s.0.now ≡ s'.0.now) × (s.1.1.1.1.1.1.1.1.0.now ≡ s'.1.1.1.1.1.1.1.1.0.now)
-read_one κs a r r' s s' p q t t' = ((one_answer (bank a.1.1.0 a.1.1.1.0) _ r r' _ _ _ _ _ _ p q).0, one-header-table (bank a.1.1.0 a.1.1.1.0) _ r r' _ _ _ _ _ _ p q t t', (one_answer (bank a.1.1.0 a.1.1.1.0) _ r r' _ _ _ _ _ _ p q).1)
+read_one κs a r r' s s' p q t t' = ((one_answer (bank a.1.1.0 a.1.1.1.0) _ r r' _ _ _ _ _ _ p q).0, one_header_table (bank a.1.1.0 a.1.1.1.0) _ r r' _ _ _ _ _ _ p q t t', (one_answer (bank a.1.1.0 a.1.1.1.0) _ r r' _ _ _ _ _ _ p q).1)
 
-pub info-one : (κs : Lfts 3) (a r r' s s' : _) → info.Learnt κs a r s → info.Learnt κs a r' s' → Table headersLength s.0.now → Table headersLength s'.0.now
+pub info_one : (κs : Lfts 3) (a r r' s s' : _) → info.Learnt κs a r s → info.Learnt κs a r' s' → Table headers_length s.0.now → Table headers_length s'.0.now
     → (report r ≡ report r') × (s.0.now ≡ s'.0.now)
-info-one κs a r r' s s' p q t t' = ((one_answer (bank a.1.1.0 a.1.1.1.0) _ r r' _ _ _ _ _ _ p q).0, one-header-table (bank a.1.1.0 a.1.1.1.0) _ r r' _ _ _ _ _ _ p q t t')
+info_one κs a r r' s s' p q t t' = ((one_answer (bank a.1.1.0 a.1.1.1.0) _ r r' _ _ _ _ _ _ p q).0, one_header_table (bank a.1.1.0 a.1.1.1.0) _ r r' _ _ _ _ _ _ p q t t')
 
-pub destroy-one : (κs : Lfts 3) (a r r' s s' : _) → destroy.Learnt κs a r s → destroy.Learnt κs a r' s' → Table headersLength s.0.now → Table headersLength s'.0.now
-    → Table (pagesLength (bank a.1.1.0 a.1.1.1.0)) s.1.0.now → Table (pagesLength (bank a.1.1.0 a.1.1.1.0)) s'.1.0.now
+pub destroy_one : (κs : Lfts 3) (a r r' s s' : _) → destroy.Learnt κs a r s → destroy.Learnt κs a r' s' → Table headers_length s.0.now → Table headers_length s'.0.now
+    → Table (pages_length (bank a.1.1.0 a.1.1.1.0)) s.1.0.now → Table (pages_length (bank a.1.1.0 a.1.1.1.0)) s'.1.0.now
     → (report r ≡ report r') × (s.0.now ≡ s'.0.now) × (s.1.0.now ≡ s'.1.0.now)
-destroy-one κs a r r' s s' p q t t' v v' = ((one_answer (bank a.1.1.0 a.1.1.1.0) _ r r' _ _ _ _ _ _ p q).0, one-header-table (bank a.1.1.0 a.1.1.1.0) _ r r' _ _ _ _ _ _ p q t t', one-page-table (bank a.1.1.0 a.1.1.1.0) _ r r' _ _ _ _ _ _ p q v v')
+destroy_one κs a r r' s s' p q t t' v v' = ((one_answer (bank a.1.1.0 a.1.1.1.0) _ r r' _ _ _ _ _ _ p q).0, one_header_table (bank a.1.1.0 a.1.1.1.0) _ r r' _ _ _ _ _ _ p q t t', one_page_table (bank a.1.1.0 a.1.1.1.0) _ r r' _ _ _ _ _ _ p q v v')
 
-pub set-expiry-one : (κs : Lfts 3) (a r r' s s' : _) → set-expiry.Learnt κs a r s → set-expiry.Learnt κs a r' s' → Table headersLength s.0.now → Table headersLength s'.0.now
-    → Table (pagesLength (bank a.1.1.0 a.1.1.1.0)) s.1.0.now → Table (pagesLength (bank a.1.1.0 a.1.1.1.0)) s'.1.0.now
+pub set_expiry_one : (κs : Lfts 3) (a r r' s s' : _) → set-expiry.Learnt κs a r s → set-expiry.Learnt κs a r' s' → Table headers_length s.0.now → Table headers_length s'.0.now
+    → Table (pages_length (bank a.1.1.0 a.1.1.1.0)) s.1.0.now → Table (pages_length (bank a.1.1.0 a.1.1.1.0)) s'.1.0.now
     → (report r ≡ report r') × (s.0.now ≡ s'.0.now) × (s.1.0.now ≡ s'.1.0.now)
-set-expiry-one κs a r r' s s' p q t t' v v' = ((one_answer (bank a.1.1.0 a.1.1.1.0) _ r r' _ _ _ _ _ _ p q).0, one-header-table (bank a.1.1.0 a.1.1.1.0) _ r r' _ _ _ _ _ _ p q t t', one-page-table (bank a.1.1.0 a.1.1.1.0) _ r r' _ _ _ _ _ _ p q v v')
+set_expiry_one κs a r r' s s' p q t t' v v' = ((one_answer (bank a.1.1.0 a.1.1.1.0) _ r r' _ _ _ _ _ _ p q).0, one_header_table (bank a.1.1.0 a.1.1.1.0) _ r r' _ _ _ _ _ _ p q t t', one_page_table (bank a.1.1.0 a.1.1.1.0) _ r r' _ _ _ _ _ _ p q v v')
 
-pub scavenge-one : (κs : Lfts 3) (a r r' s s' : _) → scavenge.Learnt κs a r s → scavenge.Learnt κs a r' s' → Table headersLength s.0.now → Table headersLength s'.0.now
-    → Table (pagesLength (bank a.1.1.0 a.1.1.1.0)) s.1.0.now → Table (pagesLength (bank a.1.1.0 a.1.1.1.0)) s'.1.0.now
+pub scavenge_one : (κs : Lfts 3) (a r r' s s' : _) → scavenge.Learnt κs a r s → scavenge.Learnt κs a r' s' → Table headers_length s.0.now → Table headers_length s'.0.now
+    → Table (pages_length (bank a.1.1.0 a.1.1.1.0)) s.1.0.now → Table (pages_length (bank a.1.1.0 a.1.1.1.0)) s'.1.0.now
     → (report r ≡ report r') × (s.0.now ≡ s'.0.now) × (s.1.0.now ≡ s'.1.0.now)
-scavenge-one κs a r r' s s' p q t t' v v' = ((one_answer (bank a.1.1.0 a.1.1.1.0) _ r r' _ _ _ _ _ _ p q).0, one-header-table (bank a.1.1.0 a.1.1.1.0) _ r r' _ _ _ _ _ _ p q t t', one-page-table (bank a.1.1.0 a.1.1.1.0) _ r r' _ _ _ _ _ _ p q v v')
+scavenge_one κs a r r' s s' p q t t' v v' = ((one_answer (bank a.1.1.0 a.1.1.1.0) _ r r' _ _ _ _ _ _ p q).0, one_header_table (bank a.1.1.0 a.1.1.1.0) _ r r' _ _ _ _ _ _ p q t t', one_page_table (bank a.1.1.0 a.1.1.1.0) _ r r' _ _ _ _ _ _ p q v v')
 
-pub format-one : (κs : Lfts 2) (a r r' s s' : _) → format.Learnt κs a r s → format.Learnt κs a r' s' → (s.0.now ≡ s'.0.now) × (s.1.0.now ≡ s'.1.0.now)
-format-one κs a r r' s s' p q = (p.0 ∙ sym q.0, p.1 ∙ sym q.1)
+pub format_one : (κs : Lfts 2) (a r r' s s' : _) → format.Learnt κs a r s → format.Learnt κs a r' s' → (s.0.now ≡ s'.0.now) × (s.1.0.now ≡ s'.1.0.now)
+format_one κs a r r' s s' p q = (p.0 ∙ sym q.0, p.1 ∙ sym q.1)
 
 pub look_one : (κs : Lfts 2) (a r r' s s' : _) → look.Learnt κs a r s → look.Learnt κs a r' s' → r.now ≡ r'.now
 look_one κs a r r' s s' p q = p ∙ sym q
 
-pub named-page-one : (κs : Lfts 1) (a r r' s s' : _) → named-page.Learnt κs a r s → named-page.Learnt κs a r' s' → r ≡ r'
-named-page-one κs a r r' s s' p q = p ∙ sym q
+pub named_page_one : (κs : Lfts 1) (a r r' s s' : _) → named-page.Learnt κs a r s → named-page.Learnt κs a r' s' → r ≡ r'
+named_page_one κs a r r' s s' p q = p ∙ sym q

@@ -6,8 +6,8 @@ ghost use Rattle.std.specs.Prelude.{◌≡◌, false, ◌≤◌, [], length};
 ghost use Rattle.paper.specs.Ids.{later};
 ghost use Rattle.paper.specs.Tables.{header_at};
 ghost use Rattle.paper.specs.Answers.{Create, Write, Read, Info, Destroy, SetExpiry, Scavenge};
-ghost use Rattle.paper.specs.Requests.{replyOf, carryOut};
-ghost use Rattle.paper.specs.Bytes.{hsFrom, psFrom, tablesFrom};
+ghost use Rattle.paper.specs.Requests.{reply_of, carry_out};
+ghost use Rattle.paper.specs.Bytes.{hs_from, ps_from, tables_from};
 ghost use Rattle.stores.specs.Geometry.{bank};
 ghost use Rattle.requests.specs.Seen.{SoundTables, Opened, shown, shows};
 ghost use Rattle.rows.specs.Ends.{standing};
@@ -38,7 +38,7 @@ pub fn create(
 ) -> Answer
     requires sound_tables { SoundTables slots size headers.old pages.old }
     requires outcomes_len { (length outcomes.now ≡ 18) × (length page.now ≡ size) × (number.0 ≤ 15) }
-    ensures { shows result page.now (tablesFrom (bank slots size) headers.new pages.new) ≡ shown (carryOut (bank slots size) time outcomes.now (Create client number page.now expires) (tablesFrom (bank slots size) headers.old pages.old)) }
+    ensures { shows result page.now (tables_from (bank slots size) headers.new pages.new) ≡ shown (carry_out (bank slots size) time outcomes.now (Create client number page.now expires) (tables_from (bank slots size) headers.old pages.old)) }
 {
     rows::set_clock(headers, time);
     let e = later(expires, time);
@@ -69,7 +69,7 @@ fn write_opened(
 ) -> Answer
     requires opened { Opened slots size n headers.old pages.old outcomes.now }
     requires page_len { (length page.now ≡ size) × (number.0 ≤ 15) }
-    ensures { shows result page.now (tablesFrom (bank slots size) headers.new pages.new) ≡ shown (replyOf page.now (writing (bank slots size) time n (header_at (hsFrom headers.old) n) number page.now outcomes.now (standing 1 false (hsFrom headers.old) (psFrom (bank slots size) pages.old)))) }
+    ensures { shows result page.now (tables_from (bank slots size) headers.new pages.new) ≡ shown (reply_of page.now (writing (bank slots size) time n (header_at (hs_from headers.old) n) number page.now outcomes.now (standing 1 false (hs_from headers.old) (ps_from (bank slots size) pages.old)))) }
 {
     let h = records::header(headers, n);
     let second = stores::pages::create_page(pages, slots, size, outcomes[1], time, h.expires, page);
@@ -105,7 +105,7 @@ pub fn write(
 ) -> Answer
     requires sound_tables { SoundTables slots size headers.old pages.old }
     requires outcomes_len { (length outcomes.now ≡ 18) × (length page.now ≡ size) × (number.0 ≤ 15) }
-    ensures { shows result page.now (tablesFrom (bank slots size) headers.new pages.new) ≡ shown (carryOut (bank slots size) time outcomes.now (Write client id number page.now) (tablesFrom (bank slots size) headers.old pages.old)) }
+    ensures { shows result page.now (tables_from (bank slots size) headers.new pages.new) ≡ shown (carry_out (bank slots size) time outcomes.now (Write client id number page.now) (tables_from (bank slots size) headers.old pages.old)) }
 {
     let first = rows::open(headers, outcomes, time, client, id);
     let Step::Gone(n) = first else {
@@ -130,7 +130,7 @@ pub fn read(
 ) -> Answer
     requires sound_tables { SoundTables slots size headers.old pages.now }
     requires outcomes_len { (length outcomes.now ≡ 18) × (length lent.old ≡ size) × (number.0 ≤ 15) }
-    ensures { shows result lent.new (tablesFrom (bank slots size) headers.new pages.now) ≡ shown (carryOut (bank slots size) time outcomes.now (Read id number lent.old) (tablesFrom (bank slots size) headers.old pages.now)) }
+    ensures { shows result lent.new (tables_from (bank slots size) headers.new pages.now) ≡ shown (carry_out (bank slots size) time outcomes.now (Read id number lent.old) (tables_from (bank slots size) headers.old pages.now)) }
 {
     rows::set_clock(headers, time);
     let first = stores::headers::read_header(headers, outcomes[0], time, id);
@@ -161,7 +161,7 @@ pub fn info(
 ) -> Answer
     requires sound_tables { SoundTables slots size headers.old pages.now }
     requires outcomes_len { length outcomes.now ≡ 18 }
-    ensures { shows result [] (tablesFrom (bank slots size) headers.new pages.now) ≡ shown (carryOut (bank slots size) time outcomes.now (Info id) (tablesFrom (bank slots size) headers.old pages.now)) }
+    ensures { shows result [] (tables_from (bank slots size) headers.new pages.now) ≡ shown (carry_out (bank slots size) time outcomes.now (Info id) (tables_from (bank slots size) headers.old pages.now)) }
 {
     rows::set_clock(headers, time);
     let first = stores::headers::read_header(headers, outcomes[0], time, id);
@@ -185,7 +185,7 @@ pub fn destroy(
 ) -> Answer
     requires sound_tables { SoundTables slots size headers.old pages.old }
     requires outcomes_len { length outcomes.now ≡ 18 }
-    ensures { shows result [] (tablesFrom (bank slots size) headers.new pages.new) ≡ shown (carryOut (bank slots size) time outcomes.now (Destroy client id) (tablesFrom (bank slots size) headers.old pages.old)) }
+    ensures { shows result [] (tables_from (bank slots size) headers.new pages.new) ≡ shown (carry_out (bank slots size) time outcomes.now (Destroy client id) (tables_from (bank slots size) headers.old pages.old)) }
 {
     let first = rows::open(headers, outcomes, time, client, id);
     let Step::Gone(n) = first else {
@@ -217,7 +217,7 @@ fn lengthen(
     expires: u32,
 ) -> Answer
     requires { Opened slots size n headers.old pages.old outcomes.now }
-    ensures { shows result [] (tablesFrom (bank slots size) headers.new pages.new) ≡ shown (replyOf [] (issuing (lengthening (bank slots size) time expires n (header_at (hsFrom headers.old) n)) outcomes.now (standing 1 false (hsFrom headers.old) (psFrom (bank slots size) pages.old)))) }
+    ensures { shows result [] (tables_from (bank slots size) headers.new pages.new) ≡ shown (reply_of [] (issuing (lengthening (bank slots size) time expires n (header_at (hs_from headers.old) n)) outcomes.now (standing 1 false (hs_from headers.old) (ps_from (bank slots size) pages.old)))) }
 {
     let h = records::header(headers, n);
     let ids = h.pages;
@@ -244,7 +244,7 @@ fn shorten(
     expires: u32,
 ) -> Answer
     requires { Opened slots size n headers.old pages.old outcomes.now }
-    ensures { shows result [] (tablesFrom (bank slots size) headers.new pages.new) ≡ shown (replyOf [] (issuing (shortening (bank slots size) time expires n (header_at (hsFrom headers.old) n)) outcomes.now (standing 1 false (hsFrom headers.old) (psFrom (bank slots size) pages.old)))) }
+    ensures { shows result [] (tables_from (bank slots size) headers.new pages.new) ≡ shown (reply_of [] (issuing (shortening (bank slots size) time expires n (header_at (hs_from headers.old) n)) outcomes.now (standing 1 false (hs_from headers.old) (ps_from (bank slots size) pages.old)))) }
 {
     let h = records::header(headers, n);
     let g = rows::forms::with_expiry(h, time, expires);
@@ -276,7 +276,7 @@ pub fn set_expiry(
 ) -> Answer
     requires sound_tables { SoundTables slots size headers.old pages.old }
     requires outcomes_len { length outcomes.now ≡ 18 }
-    ensures { shows result [] (tablesFrom (bank slots size) headers.new pages.new) ≡ shown (carryOut (bank slots size) time outcomes.now (SetExpiry client id expires) (tablesFrom (bank slots size) headers.old pages.old)) }
+    ensures { shows result [] (tables_from (bank slots size) headers.new pages.new) ≡ shown (carry_out (bank slots size) time outcomes.now (SetExpiry client id expires) (tables_from (bank slots size) headers.old pages.old)) }
 {
     let first = rows::open(headers, outcomes, time, client, id);
     let Step::Gone(n) = first else {
@@ -302,7 +302,7 @@ pub fn scavenge(
 ) -> Answer
     requires sound_tables { SoundTables slots size headers.old pages.old }
     requires outcomes_len { length outcomes.now ≡ 18 }
-    ensures { shows result [] (tablesFrom (bank slots size) headers.new pages.new) ≡ shown (carryOut (bank slots size) time outcomes.now Scavenge (tablesFrom (bank slots size) headers.old pages.old)) }
+    ensures { shows result [] (tables_from (bank slots size) headers.new pages.new) ≡ shown (carry_out (bank slots size) time outcomes.now Scavenge (tables_from (bank slots size) headers.old pages.old)) }
 {
     rows::set_clock(headers, time);
     let first = stores::headers::scavenge_headers(headers, outcomes[0], time);

@@ -1,9 +1,9 @@
 // Look: a page where it lies in the page table, without steps.
 ghost use Rattle.std.specs.Prelude.{◌≡◌, ◌≤◌, length, replicate};
 ghost use Rattle.paper.specs.Answers.{Read};
-ghost use Rattle.paper.specs.Requests.{carryOut};
-ghost use Rattle.paper.specs.Bytes.{headersLength, hsFrom, tablesFrom};
-ghost use Rattle.paper.specs.Service.{namedPage};
+ghost use Rattle.paper.specs.Requests.{carry_out};
+ghost use Rattle.paper.specs.Bytes.{headers_length, hs_from, tables_from};
+ghost use Rattle.paper.specs.Service.{named_page};
 ghost use Rattle.stores.specs.Geometry.{bank};
 ghost use Rattle.requests.specs.Seen.{SoundTables, looked};
 
@@ -11,9 +11,9 @@ use paper::{FileId, Found, PageId, PageNum};
 
 // The page id that the live header with this id has at the number, NullPageId where there is none.
 pub fn named_page(headers: &[u8], time: u32, id: FileId, number: PageNum) -> PageId
-    requires headers_len { length headers.now ≡ headersLength }
+    requires headers_len { length headers.now ≡ headers_length }
     requires number_bound { number.0 ≤ 15 }
-    ensures { result ≡ namedPage time id number (hsFrom headers.now) }
+    ensures { result ≡ named_page time id number (hs_from headers.now) }
 {
     let Found::At(n) = stores::headers::find_header(headers, time, id) else {
         return PageId(0);
@@ -35,7 +35,7 @@ pub fn look<'a>(
 ) -> &'a [u8]
     requires sound_tables { SoundTables slots size headers.now pages.now }
     requires number_bound { number.0 ≤ 15 }
-    ensures { result.now ≡ looked (carryOut (bank slots size) time (replicate 18 0) (Read id number (replicate size 0)) (tablesFrom (bank slots size) headers.now pages.now)) blank.now }
+    ensures { result.now ≡ looked (carry_out (bank slots size) time (replicate 18 0) (Read id number (replicate size 0)) (tables_from (bank slots size) headers.now pages.now)) blank.now }
 {
     let p = named_page(headers, time, id, number);
     if p.0 == 0 {

@@ -27,16 +27,16 @@ Refusal (gone n s) = Unit {0}
 Refusal (no a) = (1 ≤ a) × (a ≤ 10)
 
 module _ {S : Type 0} (f : S → Try S) (s : S) where
-  tried-tells : (t : Try S) → Refusal t → Told (tried t s).step
+  tried_tells : (t : Try S) → Refusal t → Told (tried t s).step
   unfolding tried
-  tried-tells (gone n s') h = tt
-  tried-tells (no a) h = h
+  tried_tells (gone n s') h = tt
+  tried_tells (no a) h = h
 
-  pub attempt-tells : (o : ℕ) → Refusal (f s) → Told (attempt o f s).step
+  pub attempt_tells : (o : ℕ) → Refusal (f s) → Told (attempt o f s).step
   unfolding attempt
-  attempt-tells zero h = tried-tells (f s) h
-  attempt-tells (suc zero) h = (omega arith, omega arith)
-  attempt-tells (suc (suc o)) h = tt
+  attempt_tells zero h = tried_tells (f s) h
+  attempt_tells (suc zero) h = (omega arith, omega arith)
+  attempt_tells (suc (suc o)) h = tt
 
   pub tells : (o : ℕ) (r : Step) (s' : S) → Refusal (f s) → done r s' ≡ attempt o f s → Told r
-  tells o r s' h e = subst Told (sym (ap (λ (d : Done S). d.step) e)) (attempt-tells o h)
+  tells o r s' h e = subst Told (sym (ap (λ (d : Done S). d.step) e)) (attempt_tells o h)

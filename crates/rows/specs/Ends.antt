@@ -3,11 +3,11 @@ use Rattle.std.specs.Prelude.{ℕ, ◌≤◌, Bool, List, leb}
 use Rattle.paper.specs.declared.PageId.{PageId}
 use Rattle.paper.specs.declared.Step.{Step}
 use Rattle.paper.specs.declared.Step.TheVariants.{Gone, Refused, Cut}
-use Rattle.paper.specs.Ids.{fileId}
+use Rattle.paper.specs.Ids.{file_id}
 use Rattle.paper.specs.Lists.{all}
 use Rattle.paper.specs.Tables.{HS, PS}
 use Rattle.paper.specs.Steps.{State}
-use Rattle.paper.specs.Answers.{Report, anId, succeeded, refused}
+use Rattle.paper.specs.Answers.{Report, an_id, succeeded, refused}
 
 -- taken steps, whether the header step is among them, the two stores
 abbrev pub standing : ℕ → Bool → HS → PS → State
@@ -15,7 +15,7 @@ standing k past hs ps = record { taken = k; past = past; tables = record { hs = 
 
 -- what a step's result tells when the request ends with it
 abbrev pub told : Step → Report
-told (Gone i) = succeeded (anId (fileId i))
+told (Gone i) = succeeded (an_id (file_id i))
 told (Refused a) = refused a
 told Cut = refused 10
 

@@ -1,13 +1,13 @@
 // A header by value: made, and with a page or an expiry of its own.
 ghost use Rattle.std.specs.Prelude.{◌≡◌, ◌≤◌};
-ghost use Rattle.paper.specs.Tables.{getPageId};
-ghost use Rattle.paper.specs.Requests.{makeHeader, putPageId, setHeaderExpiry, facts_of};
+ghost use Rattle.paper.specs.Tables.{get_page_id};
+ghost use Rattle.paper.specs.Requests.{make_header, put_page_id, set_header_expiry, facts_of};
 
 use paper::{Facts, FileId, Header, PageId, PageNum};
 
 // A header without pages; its id comes from the step that stores it.
 pub fn made(time: u32, client: u16, expires: u32) -> Header
-    ensures { result ≡ makeHeader time client expires }
+    ensures { result ≡ make_header time client expires }
 {
     Header {
         used: true,
@@ -22,7 +22,7 @@ pub fn made(time: u32, client: u16, expires: u32) -> Header
 
 pub fn with_page(h: Header, time: u32, number: PageNum, id: PageId) -> Header
     requires { number.0 ≤ 15 }
-    ensures { result ≡ putPageId time number id h }
+    ensures { result ≡ put_page_id time number id h }
 {
     let k = number.0 as usize;
     let mut next = h;
@@ -32,7 +32,7 @@ pub fn with_page(h: Header, time: u32, number: PageNum, id: PageId) -> Header
 }
 
 pub fn with_expiry(h: Header, time: u32, expires: u32) -> Header
-    ensures { result ≡ setHeaderExpiry time expires h }
+    ensures { result ≡ set_header_expiry time expires h }
 {
     let mut next = h;
     next.updated = time;
@@ -42,7 +42,7 @@ pub fn with_expiry(h: Header, time: u32, expires: u32) -> Header
 
 pub fn page_of(h: Header, number: PageNum) -> PageId
     requires { number.0 ≤ 15 }
-    ensures { result ≡ getPageId h number }
+    ensures { result ≡ get_page_id h number }
 {
     let k = number.0 as usize;
     let pages = h.pages;

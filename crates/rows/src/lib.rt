@@ -4,11 +4,11 @@ pub mod forms;
 
 ghost use Rattle.std.specs.Prelude.{◌≡◌, Bool, true, false, cond, ℕ, ◌+◌, ◌≤◌, List, [], ◌∷◌, length};
 ghost use Rattle.paper.specs.Tables.{HS, PS};
-ghost use Rattle.paper.specs.Steps.{done, attempt, State, follow, give, settle, passOver};
-ghost use Rattle.paper.specs.Bytes.{headersLength, hsFrom, psFrom};
+ghost use Rattle.paper.specs.Steps.{done, attempt, State, follow, give, settle, pass_over};
+ghost use Rattle.paper.specs.Bytes.{headers_length, hs_from, ps_from};
 ghost use Rattle.stores.specs.Geometry.{Geometry, bank};
 ghost use Rattle.rows.specs.Ends.{standing, named};
-ghost use Rattle.rows.specs.Rows.{clocked, opening, deedOn, eachDeed};
+ghost use Rattle.rows.specs.Rows.{clocked, opening, deed_on, each_deed};
 
 use paper::{FileId, PageId, Step};
 
@@ -28,8 +28,8 @@ pub enum Deed {
 
 // The clock is stored before step 1.
 pub fn set_clock(headers: &mut [u8], time: u32)
-    requires { length headers.old ≡ headersLength }
-    ensures { hsFrom headers.new ≡ clocked time (hsFrom headers.old) }
+    requires { length headers.old ≡ headers_length }
+    ensures { hs_from headers.new ≡ clocked time (hs_from headers.old) }
 {
     let mut c = records::control(headers);
     c.clock = time;
@@ -38,9 +38,9 @@ pub fn set_clock(headers: &mut [u8], time: u32)
 
 // The clock stored, then step 1 and the owner check: the number of the header's slot.
 pub fn open(headers: &mut [u8], outcomes: &[u8], time: u32, client: u16, id: FileId) -> Step
-    requires { (length headers.old ≡ headersLength) × (length outcomes.now ≡ 18) }
-    ensures headers_after { hsFrom headers.new ≡ clocked time (hsFrom headers.old) }
-    ensures ps_after { (ps : PS) → settle result (standing 1 false (hsFrom headers.new) ps) ≡ opening time client id outcomes.now (standing 0 false (hsFrom headers.new) ps) }
+    requires { (length headers.old ≡ headers_length) × (length outcomes.now ≡ 18) }
+    ensures headers_after { hs_from headers.new ≡ clocked time (hs_from headers.old) }
+    ensures ps_after { (ps : PS) → settle result (standing 1 false (hs_from headers.new) ps) ≡ opening time client id outcomes.now (standing 0 false (hs_from headers.new) ps) }
 {
     set_clock(headers, time);
     let found = stores::headers::read_header(headers, outcomes[0], time, id);
@@ -56,7 +56,7 @@ pub fn open(headers: &mut [u8], outcomes: &[u8], time: u32, client: u16, id: Fil
 
 // What a row makes of a page's step: nothing is told of it, and a refusal is passed over where `pass` says so.
 fn passed_over(s: Step, pass: bool) -> Step
-    ensures { (os : List ℕ) (st : State) → settle result st ≡ follow (cond pass (passOver s st) (settle s st)) os (λ n. give 0) }
+    ensures { (os : List ℕ) (st : State) → settle result st ≡ follow (cond pass (pass_over s st) (settle s st)) os (λ n. give 0) }
 {
     match s {
         Step::Gone(_) => Step::Gone(0),
@@ -82,7 +82,7 @@ fn deed_step(
 ) -> Step
     requires geometry { Geometry slots size pages.old }
     requires le_id { (1 ≤ id.0) × (id.0 ≤ slots) }
-    ensures { done result (psFrom (bank slots size) pages.new) ≡ attempt outcome (deedOn (bank slots size) deed id) (psFrom (bank slots size) pages.old) }
+    ensures { done result (ps_from (bank slots size) pages.new) ≡ attempt outcome (deed_on (bank slots size) deed id) (ps_from (bank slots size) pages.old) }
 {
     match deed {
         Deed::Destroy => stores::pages::destroy_page(pages, slots, size, outcome, id),
@@ -103,7 +103,7 @@ pub fn one_page(
 ) -> Row
     requires geometry { Geometry slots size pages.old }
     requires from_in_bounds { (from + 1 ≤ length outcomes.now) × (id.0 ≤ slots) }
-    ensures { (result.taken ≤ from + 1) × ((past : Bool) (hs : HS) → settle result.step (standing result.taken past hs (psFrom (bank slots size) pages.new)) ≡ eachDeed (bank slots size) deed pass (id ∷ []) outcomes.now (standing from past hs (psFrom (bank slots size) pages.old))) }
+    ensures { (result.taken ≤ from + 1) × ((past : Bool) (hs : HS) → settle result.step (standing result.taken past hs (ps_from (bank slots size) pages.new)) ≡ each_deed (bank slots size) deed pass (id ∷ []) outcomes.now (standing from past hs (ps_from (bank slots size) pages.old))) }
 {
     if id.0 == 0 {
         return Row {
@@ -131,7 +131,7 @@ pub fn each_page(
 ) -> Row
     requires geometry { Geometry slots size pages.old }
     requires from_in_bounds { (from + 16 ≤ length outcomes.now) × (named slots ids ≡ true) }
-    ensures { (result.taken ≤ from + 16) × ((past : Bool) (hs : HS) → settle result.step (standing result.taken past hs (psFrom (bank slots size) pages.new)) ≡ eachDeed (bank slots size) deed pass ids outcomes.now (standing from past hs (psFrom (bank slots size) pages.old))) }
+    ensures { (result.taken ≤ from + 16) × ((past : Bool) (hs : HS) → settle result.step (standing result.taken past hs (ps_from (bank slots size) pages.new)) ≡ each_deed (bank slots size) deed pass ids outcomes.now (standing from past hs (ps_from (bank slots size) pages.old))) }
 {
     let mut taken = from;
     let mut k = 0;

@@ -29,32 +29,32 @@ one l a a' lent lent' hx hx' px px' p q =
     let e : left a lent hx px ≡ left a' lent' hx' px' = p ∙ sym q in
     (ap (λ (k : Left). k.report) e, ap (λ (k : Left). k.page) e, ap (λ (k : Left). k.headers) e, ap (λ (k : Left). k.pages) e)
 
-pub format-one : (κs : Lfts 2) (a r r' s s' : _) → format.Learnt κs a r s → format.Learnt κs a r' s' → OneOfBoth r r' s.0.now s'.0.now s.1.0.now s'.1.0.now
-format-one κs a r r' s s' p q = let o = one _ r r' _ _ _ _ _ _ p q in (o.0, o.2, o.3)
+pub format_one : (κs : Lfts 2) (a r r' s s' : _) → format.Learnt κs a r s → format.Learnt κs a r' s' → OneOfBoth r r' s.0.now s'.0.now s.1.0.now s'.1.0.now
+format_one κs a r r' s s' p q = let o = one _ r r' _ _ _ _ _ _ p q in (o.0, o.2, o.3)
 
-pub create-one : (κs : Lfts 4) (a r r' s s' : _) → create.Learnt κs a r s → create.Learnt κs a r' s' → OneOfBoth r r' s.0.now s'.0.now s.1.0.now s'.1.0.now
-create-one κs a r r' s s' p q = let o = one _ r r' _ _ _ _ _ _ p q in (o.0, o.2, o.3)
+pub create_one : (κs : Lfts 4) (a r r' s s' : _) → create.Learnt κs a r s → create.Learnt κs a r' s' → OneOfBoth r r' s.0.now s'.0.now s.1.0.now s'.1.0.now
+create_one κs a r r' s s' p q = let o = one _ r r' _ _ _ _ _ _ p q in (o.0, o.2, o.3)
 
-pub write-one : (κs : Lfts 4) (a r r' s s' : _) → write.Learnt κs a r s → write.Learnt κs a r' s' → OneOfBoth r r' s.0.now s'.0.now s.1.0.now s'.1.0.now
-write-one κs a r r' s s' p q = let o = one _ r r' _ _ _ _ _ _ p q in (o.0, o.2, o.3)
+pub write_one : (κs : Lfts 4) (a r r' s s' : _) → write.Learnt κs a r s → write.Learnt κs a r' s' → OneOfBoth r r' s.0.now s'.0.now s.1.0.now s'.1.0.now
+write_one κs a r r' s s' p q = let o = one _ r r' _ _ _ _ _ _ p q in (o.0, o.2, o.3)
 
 pub read_one : (κs : Lfts 4) (a r r' s s' : _) → read.Learnt κs a r s → read.Learnt κs a r' s' → (report r ≡ report r') × (s.1.1.1.1.1.1.0.now ≡ s'.1.1.1.1.1.1.0.now) × (s.0.now ≡ s'.0.now)
 read_one κs a r r' s s' p q = let o = one _ r r' _ _ _ _ _ _ p q in (o.0, o.1, o.2)
 
-pub info-one : (κs : Lfts 3) (a r r' s s' : _) → info.Learnt κs a r s → info.Learnt κs a r' s' → (report r ≡ report r') × (s.0.now ≡ s'.0.now)
-info-one κs a r r' s s' p q = let o = one _ r r' _ _ _ _ _ _ p q in (o.0, o.2)
+pub info_one : (κs : Lfts 3) (a r r' s s' : _) → info.Learnt κs a r s → info.Learnt κs a r' s' → (report r ≡ report r') × (s.0.now ≡ s'.0.now)
+info_one κs a r r' s s' p q = let o = one _ r r' _ _ _ _ _ _ p q in (o.0, o.2)
 
-pub destroy-one : (κs : Lfts 3) (a r r' s s' : _) → destroy.Learnt κs a r s → destroy.Learnt κs a r' s' → OneOfBoth r r' s.0.now s'.0.now s.1.0.now s'.1.0.now
-destroy-one κs a r r' s s' p q = let o = one _ r r' _ _ _ _ _ _ p q in (o.0, o.2, o.3)
+pub destroy_one : (κs : Lfts 3) (a r r' s s' : _) → destroy.Learnt κs a r s → destroy.Learnt κs a r' s' → OneOfBoth r r' s.0.now s'.0.now s.1.0.now s'.1.0.now
+destroy_one κs a r r' s s' p q = let o = one _ r r' _ _ _ _ _ _ p q in (o.0, o.2, o.3)
 
-pub set-expiry-one : (κs : Lfts 3) (a r r' s s' : _) → set-expiry.Learnt κs a r s → set-expiry.Learnt κs a r' s' → OneOfBoth r r' s.0.now s'.0.now s.1.0.now s'.1.0.now
-set-expiry-one κs a r r' s s' p q = let o = one _ r r' _ _ _ _ _ _ p q in (o.0, o.2, o.3)
+pub set_expiry_one : (κs : Lfts 3) (a r r' s s' : _) → set-expiry.Learnt κs a r s → set-expiry.Learnt κs a r' s' → OneOfBoth r r' s.0.now s'.0.now s.1.0.now s'.1.0.now
+set_expiry_one κs a r r' s s' p q = let o = one _ r r' _ _ _ _ _ _ p q in (o.0, o.2, o.3)
 
-pub scavenge-one : (κs : Lfts 3) (a r r' s s' : _) → scavenge.Learnt κs a r s → scavenge.Learnt κs a r' s' → OneOfBoth r r' s.0.now s'.0.now s.1.0.now s'.1.0.now
-scavenge-one κs a r r' s s' p q = let o = one _ r r' _ _ _ _ _ _ p q in (o.0, o.2, o.3)
+pub scavenge_one : (κs : Lfts 3) (a r r' s s' : _) → scavenge.Learnt κs a r s → scavenge.Learnt κs a r' s' → OneOfBoth r r' s.0.now s'.0.now s.1.0.now s'.1.0.now
+scavenge_one κs a r r' s s' p q = let o = one _ r r' _ _ _ _ _ _ p q in (o.0, o.2, o.3)
 
 pub look_one : (κs : Lfts 2) (a r r' s s' : _) → look.Learnt κs a r s → look.Learnt κs a r' s' → r.now ≡ r'.now
 look_one κs a r r' s s' p q = p ∙ sym q
 
-pub look-slot-one : (κs : Lfts 2) (a r r' s s' : _) → look-slot.Learnt κs a r s → look-slot.Learnt κs a r' s' → r ≡ r'
-look-slot-one κs a r r' s s' p q = p ∙ sym q
+pub look_slot_one : (κs : Lfts 2) (a r r' s s' : _) → look-slot.Learnt κs a r s → look-slot.Learnt κs a r' s' → r ≡ r'
+look_slot_one κs a r r' s s' p q = p ∙ sym q

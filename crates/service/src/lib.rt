@@ -2,9 +2,9 @@
 ghost use Rattle.std.specs.Prelude.{◌≡◌, []};
 ghost use Rattle.paper.specs.Tables.{standard};
 ghost use Rattle.paper.specs.Answers.{Create, Write, Read, Info, Destroy, SetExpiry, Scavenge};
-ghost use Rattle.paper.specs.Requests.{outcomesFit, pageFits};
-ghost use Rattle.paper.specs.Service.{serveBytes, format, look, lookSlot};
-ghost use Rattle.service.specs.Border.{left, tablesRefusal, admission};
+ghost use Rattle.paper.specs.Requests.{outcomes_fit, page_fits};
+ghost use Rattle.paper.specs.Service.{serve_bytes, format, look, look_slot};
+ghost use Rattle.service.specs.Border.{left, tables_refusal, admission};
 
 use paper::{Answer, FileId, PageId, PageNum};
 
@@ -14,7 +14,7 @@ const SIZE: usize = 120;
 
 // 18 bytes, none above 2; no exit per byte.
 fn outcomes_fit(outcomes: &[u8]) -> bool
-    ensures { result ≡ outcomesFit outcomes.now }
+    ensures { result ≡ outcomes_fit outcomes.now }
 {
     if outcomes.len() != 18 {
         return false;
@@ -29,7 +29,7 @@ fn outcomes_fit(outcomes: &[u8]) -> bool
 }
 
 fn page_fits(number: PageNum, page: &[u8]) -> bool
-    ensures { result ≡ pageFits standard number page.now }
+    ensures { result ≡ page_fits standard number page.now }
 {
     if number.0 > 15 {
         return false;
@@ -39,7 +39,7 @@ fn page_fits(number: PageNum, page: &[u8]) -> bool
 
 // The refusal by the tables and the time alone, 0 for none.
 fn tables_refusal(headers: &[u8], pages: &[u8], time: u32) -> u8
-    ensures { result ≡ tablesRefusal standard time headers.now pages.now }
+    ensures { result ≡ tables_refusal standard time headers.now pages.now }
 {
     if headers.len() != 2340 {
         return 1;
@@ -90,7 +90,7 @@ pub fn create(
     page: &[u8],
     expires: u32,
 ) -> Answer
-    ensures { left result page.now headers.new pages.new ≡ serveBytes standard time outcomes.now (Create client number page.now expires) headers.old pages.old }
+    ensures { left result page.now headers.new pages.new ≡ serve_bytes standard time outcomes.now (Create client number page.now expires) headers.old pages.old }
 {
     let well = page_fits(number, page);
     let n = refusal(headers, pages, outcomes, time, well);
@@ -112,7 +112,7 @@ pub fn write(
     number: PageNum,
     page: &[u8],
 ) -> Answer
-    ensures { left result page.now headers.new pages.new ≡ serveBytes standard time outcomes.now (Write client id number page.now) headers.old pages.old }
+    ensures { left result page.now headers.new pages.new ≡ serve_bytes standard time outcomes.now (Write client id number page.now) headers.old pages.old }
 {
     let well = page_fits(number, page);
     let n = refusal(headers, pages, outcomes, time, well);
@@ -133,7 +133,7 @@ pub fn read(
     number: PageNum,
     lent: &mut [u8],
 ) -> Answer
-    ensures { left result lent.new headers.new pages.now ≡ serveBytes standard time outcomes.now (Read id number lent.old) headers.old pages.now }
+    ensures { left result lent.new headers.new pages.now ≡ serve_bytes standard time outcomes.now (Read id number lent.old) headers.old pages.now }
 {
     let well = page_fits(number, lent);
     let n = refusal(headers, pages, outcomes, time, well);
@@ -146,7 +146,7 @@ pub fn read(
 }
 
 pub fn info(headers: &mut [u8], pages: &[u8], outcomes: &[u8], time: u32, id: FileId) -> Answer
-    ensures { left result [] headers.new pages.now ≡ serveBytes standard time outcomes.now (Info id) headers.old pages.now }
+    ensures { left result [] headers.new pages.now ≡ serve_bytes standard time outcomes.now (Info id) headers.old pages.now }
 {
     let n = refusal(headers, pages, outcomes, time, true);
     if n != 0 {
@@ -163,7 +163,7 @@ pub fn destroy(
     client: u16,
     id: FileId,
 ) -> Answer
-    ensures { left result [] headers.new pages.new ≡ serveBytes standard time outcomes.now (Destroy client id) headers.old pages.old }
+    ensures { left result [] headers.new pages.new ≡ serve_bytes standard time outcomes.now (Destroy client id) headers.old pages.old }
 {
     let n = refusal(headers, pages, outcomes, time, true);
     if n != 0 {
@@ -181,7 +181,7 @@ pub fn set_expiry(
     id: FileId,
     expires: u32,
 ) -> Answer
-    ensures { left result [] headers.new pages.new ≡ serveBytes standard time outcomes.now (SetExpiry client id expires) headers.old pages.old }
+    ensures { left result [] headers.new pages.new ≡ serve_bytes standard time outcomes.now (SetExpiry client id expires) headers.old pages.old }
 {
     let n = refusal(headers, pages, outcomes, time, true);
     if n != 0 {
@@ -193,7 +193,7 @@ pub fn set_expiry(
 }
 
 pub fn scavenge(headers: &mut [u8], pages: &mut [u8], outcomes: &[u8], time: u32) -> Answer
-    ensures { left result [] headers.new pages.new ≡ serveBytes standard time outcomes.now Scavenge headers.old pages.old }
+    ensures { left result [] headers.new pages.new ≡ serve_bytes standard time outcomes.now Scavenge headers.old pages.old }
 {
     let n = refusal(headers, pages, outcomes, time, true);
     if n != 0 {
@@ -225,7 +225,7 @@ pub fn look<'a>(
 
 // Where the page lies that Look answers: its slot, NullPageId for the blank.
 pub fn look_slot(headers: &[u8], pages: &[u8], time: u32, id: FileId, number: PageNum) -> PageId
-    ensures { result ≡ lookSlot standard time id number headers.now pages.now }
+    ensures { result ≡ look_slot standard time id number headers.now pages.now }
 {
     if number.0 > 15 {
         return PageId(0);

@@ -2,7 +2,7 @@
 -- Assumes nothing.
 use Prim.Native.Nat.{ℕ, ◌+◌, ◌-◌, ◌*◌, ◌/◌, ◌≤◌, ◌<◌}
 use mathlib.Core.Path.{◌≡◌, refl, sym, ap, ap₂, ◌∙◌, subst}
-use mathlib.Core.Bool.{Bool, true, false, ◌&&◌, cond, and-false}
+use mathlib.Core.Bool.{Bool, true, false, ◌&&◌, cond, and_false}
 use mathlib.Core.List.{List, [], ◌∷◌, ◌++◌, append_assoc, append-nil}
 use native.Mathlib.Numerals.{add-one}
 use native.Mathlib.Omega.{arith}
@@ -15,122 +15,122 @@ use Rattle.bits.proofs.Fields.{field_lt}
 use Rattle.paper.specs.declared.Control.{Control}
 use Rattle.paper.specs.declared.Header.{Header}
 use Rattle.paper.specs.Lists.{all, is_zero, numbered}
-use Rattle.paper.specs.Tables.{Bank, PS, no_header, headerSlots, header_at}
-use Rattle.paper.specs.Sound.{goodHeader, zero_header}
-use Rattle.paper.specs.Bytes.{isOne, ids_of, headersLength, headerFrom, hsFrom}
-use Rattle.records.proofs.Read.{header-fields, word-used}
-use Rattle.records.proofs.Places.{header-place}
-use Rattle.records.proofs.Zeros.{zero-header}
+use Rattle.paper.specs.Tables.{Bank, PS, no_header, header_slots, header_at}
+use Rattle.paper.specs.Sound.{good_header, zero_header}
+use Rattle.paper.specs.Bytes.{is_one, ids_of, headers_length, header_from, hs_from}
+use Rattle.records.proofs.Read.{header_fields, word_used}
+use Rattle.records.proofs.Places.{header_place}
+use Rattle.records.proofs.Zeros.{zero_header_lem}
 use Rattle.sound.specs.declared.Checked.{Checked}
 use Rattle.sound.specs.declared.Checked.TheVariants.{Broken, Empty, Named}
-use Rattle.sound.specs.Seen.{idWithin, idsInUse, marked, heldTo, once, passes, seenAfter, allPass, told}
+use Rattle.sound.specs.Seen.{id_within, ids_in_use, marked, held_to, once, passes, seen_after, all_pass, told}
 use Rattle.paper.proofs.Tests.{both}
-use Rattle.sound.proofs.Walks.{from-number, past_all}
-use Rattle.sound.proofs.Records.{part, part-is, part_bytes, part_length}
+use Rattle.sound.proofs.Walks.{from_number, past_all}
+use Rattle.sound.proofs.Records.{part, part_is, part_bytes, part_length}
 
-pub good-within : (b : Bank) (c : Control) (h : Header) → goodHeader b c h ≡ true → all (idWithin b.slots) h.pages ≡ true
-unfolding goodHeader
-good-within b c h e =
+pub good_within : (b : Bank) (c : Control) (h : Header) → good_header b c h ≡ true → all (id_within b.slots) h.pages ≡ true
+unfolding good_header
+good_within b c h e =
     (both
     (leb 1 h.id.0 && ltb h.id.0 c.next && leb h.created h.updated && leb h.updated c.clock && leb h.updated h.expires)
-    (all (idWithin b.slots) h.pages) e).1
+    (all (id_within b.slots) h.pages) e).1
 
-own-header : (xs : List ℕ) (n : ℕ) → 1 ≤ n → n ≤ headerSlots → headerFrom (part (n * 36) 36 xs) ≡ header_at (hsFrom xs) n
-own-header xs n lo hi = ap headerFrom (part-is (n * 36) 36 xs) ∙ sym (header-place xs n lo hi)
+own_header : (xs : List ℕ) (n : ℕ) → 1 ≤ n → n ≤ header_slots → header_from (part (n * 36) 36 xs) ≡ header_at (hs_from xs) n
+own_header xs n lo hi = ap header_from (part_is (n * 36) 36 xs) ∙ sym (header_place xs n lo hi)
 
 -- in use by the first word of header slot n's part of the table
-module _ (xs : List ℕ) (long : length xs ≡ headersLength) (n : ℕ) (lo : 1 ≤ n) (hi : n ≤ headerSlots) (w : ℕ) (e : w ≡ field 0 32 (part (n * 36) 36 xs)) where
-  header-used : isOne (w / 2147483648) ≡ (header_at (hsFrom xs) n).used
-  header-used =
+module _ (xs : List ℕ) (long : length xs ≡ headers_length) (n : ℕ) (lo : 1 ≤ n) (hi : n ≤ header_slots) (w : ℕ) (e : w ≡ field 0 32 (part (n * 36) 36 xs)) where
+  header_used : is_one (w / 2147483648) ≡ (header_at (hs_from xs) n).used
+  header_used =
       let l : length (part (n * 36) 36 xs) ≡ 36 = part_length (n * 36) 36 xs (omega arith) in
-      word-used w (part (n * 36) 36 xs) (omega arith) e ∙ ap (λ (h : Header). h.used) (header-fields (part (n * 36) 36 xs) l ∙ own-header xs n lo hi)
+      word_used w (part (n * 36) 36 xs) (omega arith) e ∙ ap (λ (h : Header). h.used) (header_fields (part (n * 36) 36 xs) l ∙ own_header xs n lo hi)
 
-  pub word-in-use : 2147483648 ≤ w → (header_at (hsFrom xs) n).used ≡ true
-  word-in-use h = sym header-used ∙ eq-eqb (w / 2147483648) 1 (omega (arith, field_lt 0 32 (part (n * 36) 36 xs)))
+  pub word_in_use : 2147483648 ≤ w → (header_at (hs_from xs) n).used ≡ true
+  word_in_use h = sym header_used ∙ eq-eqb (w / 2147483648) 1 (omega (arith, field_lt 0 32 (part (n * 36) 36 xs)))
 
-  pub word-unused : w < 2147483648 → (header_at (hsFrom xs) n).used ≡ false
-  word-unused h = sym header-used ∙ ne_eqb (w / 2147483648) 1 (λ z. absurd (omega arith))
+  pub word_unused : w < 2147483648 → (header_at (hs_from xs) n).used ≡ false
+  word_unused h = sym header_used ∙ ne_eqb (w / 2147483648) 1 (λ z. absurd (omega arith))
 
 -- what is told of a header, by whether it is in use and passes
-told-by : (h : Header) (u t : Bool) → h.used ≡ u → cond t (cond u (Named h.id.0) Empty) Broken ≡ told t h
+told_by : (h : Header) (u t : Bool) → h.used ≡ u → cond t (cond u (Named h.id.0) Empty) Broken ≡ told t h
 unfolding told
-told-by h u true e = ap (λ (s : Bool). cond s (Named h.id.0) Empty) (sym e)
-told-by h u false e = refl
+told_by h u true e = ap (λ (s : Bool). cond s (Named h.id.0) Empty) (sym e)
+told_by h u false e = refl
 
 module _ (b : Bank) (c : Control) (ps : PS) (seen : List Bool) where
   -- r is what is to be told of header h, and after is the map then
   abbrev pub Told : Header → Checked → List Bool → Type 0
-  Told h r after = (r ≡ told (passes b c ps seen h) h) × (after ≡ seenAfter b c seen h)
+  Told h r after = (r ≡ told (passes b c ps seen h) h) × (after ≡ seen_after b c seen h)
 
   pub told_same : {h k : Header} {r : Checked} {after : List Bool} → h ≡ k → Told h r after → Told k r after
   told_same {r = r} {after = after} e t = subst (λ (x : Header). Told x r after) e t
 
   module _ (h : Header) where
     -- the map after a header, by the three tests
-    after-by : (u l g : Bool) → h.used ≡ u → ltb c.clock h.expires ≡ l → goodHeader b c h ≡ g
-        → cond (u && l && g) (marked seen (ids_of h.pages)) seen ≡ seenAfter b c seen h
-    unfolding seenAfter
-    after-by u l g eu el eg = sym (λ i. cond (eu i && el i && eg i) (marked seen (ids_of h.pages)) seen)
+    after_by : (u l g : Bool) → h.used ≡ u → ltb c.clock h.expires ≡ l → good_header b c h ≡ g
+        → cond (u && l && g) (marked seen (ids_of h.pages)) seen ≡ seen_after b c seen h
+    unfolding seen_after
+    after_by u l g eu el eg = sym (λ i. cond (eu i && el i && eg i) (marked seen (ids_of h.pages)) seen)
 
-    passes-by : (u l g t : Bool) → h.used ≡ u → ltb c.clock h.expires ≡ l → goodHeader b c h ≡ g → once (heldTo b ps h.expires) seen h.pages ≡ t
+    passes_by : (u l g t : Bool) → h.used ≡ u → ltb c.clock h.expires ≡ l → good_header b c h ≡ g → once (held_to b ps h.expires) seen h.pages ≡ t
         → cond u (g && cond l t true) (zero_header h) ≡ passes b c ps seen h
     unfolding passes
-    passes-by u l g t eu el eg et = sym (λ i. cond (eu i) (eg i && cond (el i) (et i) true) (zero_header h))
+    passes_by u l g t eu el eg et = sym (λ i. cond (eu i) (eg i && cond (el i) (et i) true) (zero_header h))
 
     module _ (u : h.used ≡ true) where
-      pub not_good : goodHeader b c h ≡ false → Told h Broken seen
+      pub not_good : good_header b c h ≡ false → Told h Broken seen
       not_good g = (
-        told-by h true false u ∙ ap (λ (t : Bool). told t h) (passes-by true _ false _ u refl g refl),
-        ap (λ (t : Bool). cond t (marked seen (ids_of h.pages)) seen) (sym (and-false (ltb c.clock h.expires))) ∙ after-by true _ false u refl g,
+        told_by h true false u ∙ ap (λ (t : Bool). told t h) (passes_by true _ false _ u refl g refl),
+        ap (λ (t : Bool). cond t (marked seen (ids_of h.pages)) seen) (sym (and_false (ltb c.clock h.expires))) ∙ after_by true _ false u refl g,
       )
 
-      module _ (g : goodHeader b c h ≡ true) where
-        pub good-expired : h.expires ≤ c.clock → Told h (Named h.id.0) seen
-        good-expired l =
+      module _ (g : good_header b c h ≡ true) where
+        pub good_expired : h.expires ≤ c.clock → Told h (Named h.id.0) seen
+        good_expired l =
             let e : ltb c.clock h.expires ≡ false = le-ltb c.clock h.expires l in
-            (told-by h true true u ∙ ap (λ (t : Bool). told t h) (passes-by true false true _ u e g refl), after-by true false true u e g)
+            (told_by h true true u ∙ ap (λ (t : Bool). told t h) (passes_by true false true _ u e g refl), after_by true false true u e g)
 
-        pub good-live : c.clock < h.expires → (t : Bool) → t ≡ once (heldTo b ps h.expires) seen h.pages
+        pub good_live : c.clock < h.expires → (t : Bool) → t ≡ once (held_to b ps h.expires) seen h.pages
             → Told h (cond t (Named h.id.0) Broken) (marked seen (ids_of h.pages))
-        good-live l t o =
+        good_live l t o =
             let e : ltb c.clock h.expires ≡ true = lt-ltb c.clock h.expires l in
-            (told-by h true t u ∙ ap (λ (s : Bool). told s h) (passes-by true true true t u e g (sym o)), after-by true true true u e g)
+            (told_by h true t u ∙ ap (λ (s : Bool). told s h) (passes_by true true true t u e g (sym o)), after_by true true true u e g)
 
   -- header slot n by its part of the table
-  module _ (xs : List ℕ) (bytes : Bytes xs) (long : length xs ≡ headersLength) (n : ℕ) (lo : 1 ≤ n) (hi : n ≤ headerSlots) (u : (header_at (hsFrom xs) n).used ≡ false) where
+  module _ (xs : List ℕ) (bytes : Bytes xs) (long : length xs ≡ headers_length) (n : ℕ) (lo : 1 ≤ n) (hi : n ≤ header_slots) (u : (header_at (hs_from xs) n).used ≡ false) where
     abbrev at_n : Header
-    at_n = header_at (hsFrom xs) n
+    at_n = header_at (hs_from xs) n
 
-    pub not-in-use : (t : Bool) → t ≡ all is_zero (part (n * 36) 36 xs) → Told at_n (cond t Empty Broken) seen
-    not-in-use t z =
+    pub not_in_use : (t : Bool) → t ≡ all is_zero (part (n * 36) 36 xs) → Told at_n (cond t Empty Broken) seen
+    not_in_use t z =
         let zeros : zero_header at_n ≡ all is_zero (part (n * 36) 36 xs) =
-        ap zero_header (sym (own-header xs n lo hi)) ∙ zero-header (part (n * 36) 36 xs) (part_bytes (n * 36) 36 xs bytes) (part_length (n * 36) 36 xs (omega arith)) in
-        (told-by at_n false t u ∙ ap (λ (s : Bool). told s at_n) (z ∙ sym zeros ∙ passes-by at_n false _ _ _ u refl refl refl), after-by at_n false _ _ u refl refl)
+        ap zero_header (sym (own_header xs n lo hi)) ∙ zero_header_lem (part (n * 36) 36 xs) (part_bytes (n * 36) 36 xs bytes) (part_length (n * 36) 36 xs (omega arith)) in
+        (told_by at_n false t u ∙ ap (λ (s : Bool). told s at_n) (z ∙ sym zeros ∙ passes_by at_n false _ _ _ u refl refl refl), after_by at_n false _ _ u refl refl)
 
 -- what was told says of the header
 module _ (h : Header) where
-  broken-fails : (t : Bool) → told t h ≡ Broken → t ≡ false
+  broken_fails : (t : Bool) → told t h ≡ Broken → t ≡ false
   unfolding told
-  broken-fails false e = refl
-  broken-fails true e = go h.used e
+  broken_fails false e = refl
+  broken_fails true e = go h.used e
     where
       go : (u : Bool) → cond u (Named h.id.0) Empty ≡ Broken → true ≡ false
       go true e = cc
       go false e = cc
 
-  empty-passes : (t : Bool) → told t h ≡ Empty → (t ≡ true) × (h.used ≡ false)
+  empty_passes : (t : Bool) → told t h ≡ Empty → (t ≡ true) × (h.used ≡ false)
   unfolding told
-  empty-passes false e = (cc, cc)
-  empty-passes true e = (refl, go h.used e)
+  empty_passes false e = (cc, cc)
+  empty_passes true e = (refl, go h.used e)
     where
       go : (u : Bool) → cond u (Named h.id.0) Empty ≡ Empty → u ≡ false
       go true e = cc
       go false e = refl
 
-  named-passes : (t : Bool) (id : ℕ) → told t h ≡ Named id → (t ≡ true) × (h.used ≡ true) × (h.id.0 ≡ id)
+  named_passes : (t : Bool) (id : ℕ) → told t h ≡ Named id → (t ≡ true) × (h.used ≡ true) × (h.id.0 ≡ id)
   unfolding told
-  named-passes false id e = (cc, cc, cc)
-  named-passes true id e = let g = go h.used e in (refl, g.0, g.1)
+  named_passes false id e = (cc, cc, cc)
+  named_passes true id e = let g = go h.used e in (refl, g.0, g.1)
     where
       go : (u : Bool) → cond u (Named h.id.0) Empty ≡ Named id → (u ≡ true) × (h.id.0 ≡ id)
       go true e = (refl, cc)
@@ -139,18 +139,18 @@ module _ (h : Header) where
 -- the headers have been walked up to number n: the map is seen, and the first count of ids are the ids of those in use
 pub record Gathered (b : Bank) (c : Control) (ps : PS) (seen₀ : List Bool) (hs : List Header) (n : ℕ) (seen : List Bool) (ids : List ℕ) (count : ℕ) : Type 0 where
   pub few : count ≤ n - 1
-  pub pass : allPass b c ps seen (drop (n - 1) hs) ≡ allPass b c ps seen₀ hs
-  pub names : take count ids ++ idsInUse (drop (n - 1) hs) ≡ idsInUse hs
+  pub pass : all_pass b c ps seen (drop (n - 1) hs) ≡ all_pass b c ps seen₀ hs
+  pub names : take count ids ++ ids_in_use (drop (n - 1) hs) ≡ ids_in_use hs
 
-pub gather-starts : (b : Bank) (c : Control) (ps : PS) (seen : List Bool) (hs : List Header) (ids : List ℕ) → Gathered b c ps seen hs 1 seen ids 0
-gather-starts b c ps seen hs ids = record { few = omega arith; pass = refl; names = refl }
+pub gather_starts : (b : Bank) (c : Control) (ps : PS) (seen : List Bool) (hs : List Header) (ids : List ℕ) → Gathered b c ps seen hs 1 seen ids 0
+gather_starts b c ps seen hs ids = record { few = omega arith; pass = refl; names = refl }
 
 module _ {b : Bank} {c : Control} {ps : PS} {seen₀ : List Bool} {hs : List Header} {n : ℕ} {seen : List Bool} {ids : List ℕ} {count : ℕ} (g : Gathered b c ps seen₀ hs n seen ids count) where
-  pub gather-ends : length hs < n → (allPass b c ps seen₀ hs ≡ true) × (take count ids ≡ idsInUse hs)
-  unfolding allPass
-  gather-ends h =
+  pub gather_ends : length hs < n → (all_pass b c ps seen₀ hs ≡ true) × (take count ids ≡ ids_in_use hs)
+  unfolding all_pass
+  gather_ends h =
       let none : drop (n - 1) hs ≡ [] = past_all hs n h in
-      (sym g.pass ∙ ap (allPass b c ps seen) none, sym (append-nil (take count ids)) ∙ ap (λ (l : List Header). take count ids ++ idsInUse l) (sym none) ∙ g.names)
+      (sym g.pass ∙ ap (all_pass b c ps seen) none, sym (append-nil (take count ids)) ∙ ap (λ (l : List Header). take count ids ++ ids_in_use l) (sym none) ∙ g.names)
 
   module _ (lo : 1 ≤ n) (hi : n ≤ length hs) where
     abbrev here : Header
@@ -160,37 +160,37 @@ module _ {b : Bank} {c : Control} {ps : PS} {seen₀ : List Bool} {hs : List Hea
     rest = drop (n + 1 - 1) hs
 
     next : drop (n - 1) hs ≡ here ∷ rest
-    next = from-number no_header hs n lo hi
+    next = from_number no_header hs n lo hi
 
-    turn : passes b c ps seen here && allPass b c ps (seenAfter b c seen here) rest ≡ allPass b c ps seen₀ hs
-    unfolding allPass
-    turn = ap (allPass b c ps seen) (sym next) ∙ g.pass
+    turn : passes b c ps seen here && all_pass b c ps (seen_after b c seen here) rest ≡ all_pass b c ps seen₀ hs
+    unfolding all_pass
+    turn = ap (all_pass b c ps seen) (sym next) ∙ g.pass
 
-    passed : (seen' : List Bool) → passes b c ps seen here ≡ true → seen' ≡ seenAfter b c seen here → allPass b c ps seen' rest ≡ allPass b c ps seen₀ hs
-    passed seen' p m = ap₂ (λ (t : Bool) (l : List Bool). t && allPass b c ps l rest) (sym p) m ∙ turn
+    passed : (seen' : List Bool) → passes b c ps seen here ≡ true → seen' ≡ seen_after b c seen here → all_pass b c ps seen' rest ≡ all_pass b c ps seen₀ hs
+    passed seen' p m = ap₂ (λ (t : Bool) (l : List Bool). t && all_pass b c ps l rest) (sym p) m ∙ turn
 
-    names-by : (u : Bool) → here.used ≡ u → take count ids ++ cond u (here.id.0 ∷ idsInUse rest) (idsInUse rest) ≡ idsInUse hs
-    names-by u e = sym (used-or-not u e) ∙ g.names
+    names_by : (u : Bool) → here.used ≡ u → take count ids ++ cond u (here.id.0 ∷ ids_in_use rest) (ids_in_use rest) ≡ ids_in_use hs
+    names_by u e = sym (used_or_not u e) ∙ g.names
       where
-        used-or-not : (u : Bool) → here.used ≡ u → take count ids ++ idsInUse (drop (n - 1) hs) ≡ take count ids ++ cond u (here.id.0 ∷ idsInUse rest) (idsInUse rest)
-        used-or-not true e = rw (next, e)
-        used-or-not false e = rw (next, e)
+        used_or_not : (u : Bool) → here.used ≡ u → take count ids ++ ids_in_use (drop (n - 1) hs) ≡ take count ids ++ cond u (here.id.0 ∷ ids_in_use rest) (ids_in_use rest)
+        used_or_not true e = rw (next, e)
+        used_or_not false e = rw (next, e)
 
-    pub gather-broken : told (passes b c ps seen here) here ≡ Broken → allPass b c ps seen₀ hs ≡ false
-    gather-broken e = sym turn ∙ ap (λ (t : Bool). t && allPass b c ps (seenAfter b c seen here) rest) (broken-fails here _ e)
+    pub gather_broken : told (passes b c ps seen here) here ≡ Broken → all_pass b c ps seen₀ hs ≡ false
+    gather_broken e = sym turn ∙ ap (λ (t : Bool). t && all_pass b c ps (seen_after b c seen here) rest) (broken_fails here _ e)
 
-    pub gather-empty : (seen' : List Bool) → told (passes b c ps seen here) here ≡ Empty → seen' ≡ seenAfter b c seen here → Gathered b c ps seen₀ hs (n + 1) seen' ids count
-    gather-empty seen' e m =
-        let p = empty-passes here _ e in
-        record { few = omega (arith, g.few); pass = passed seen' p.0 m; names = names-by false p.1 }
+    pub gather_empty : (seen' : List Bool) → told (passes b c ps seen here) here ≡ Empty → seen' ≡ seen_after b c seen here → Gathered b c ps seen₀ hs (n + 1) seen' ids count
+    gather_empty seen' e m =
+        let p = empty_passes here _ e in
+        record { few = omega (arith, g.few); pass = passed seen' p.0 m; names = names_by false p.1 }
 
-    pub gather-named : (seen' : List Bool) (id : ℕ) → told (passes b c ps seen here) here ≡ Named id → seen' ≡ seenAfter b c seen here → count < length ids
+    pub gather_named : (seen' : List Bool) (id : ℕ) → told (passes b c ps seen here) here ≡ Named id → seen' ≡ seen_after b c seen here → count < length ids
         → Gathered b c ps seen₀ hs (n + 1) seen' (set ids count id) (count + 1)
-    gather-named seen' id e m room =
-        let p = named-passes here _ id e in
+    gather_named seen' id e m room =
+        let p = named_passes here _ id e in
         record {
           few = omega (arith, g.few);
           pass = passed seen' p.0 m;
-          names = rw (add-one, take-suc-set ids count id) (append_assoc (take count ids) (id ∷ []) (idsInUse rest))
-              ∙ ap (λ (x : ℕ). take count ids ++ x ∷ idsInUse rest) (sym p.2) ∙ names-by true p.1;
+          names = rw (add-one, take-suc-set ids count id) (append_assoc (take count ids) (id ∷ []) (ids_in_use rest))
+              ∙ ap (λ (x : ℕ). take count ids ++ x ∷ ids_in_use rest) (sym p.2) ∙ names_by true p.1;
         }

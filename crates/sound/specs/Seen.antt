@@ -6,7 +6,7 @@ use Rattle.paper.specs.declared.Header.{Header}
 use Rattle.paper.specs.Lists.{those, is_zero}
 use Rattle.paper.specs.Tables.{Bank, PS, live, slot_at}
 use Rattle.paper.specs.Bytes.{ids_of}
-use Rattle.paper.specs.Sound.{zero_header, goodHeader}
+use Rattle.paper.specs.Sound.{zero_header, good_header}
 use Rattle.sound.specs.declared.Checked.{Checked}
 use Rattle.sound.specs.declared.Checked.TheVariants.{Broken, Empty, Named}
 
@@ -15,16 +15,16 @@ pub record Unmarked (slots : ℕ) (seen : List Bool) : Type 0 where
   pub wide : slots ≤ length seen
   pub none : seen ≡ replicate (length seen) false
 
-abbrev pub idWithin : ℕ → PageId → Bool
-idWithin slots p = leb p.0 slots
+abbrev pub id_within : ℕ → PageId → Bool
+id_within slots p = leb p.0 slots
 
-abbrev pub idsInUse : List Header → List ℕ
-idsInUse hs = map (λ (h : Header). h.id.0) (those (λ (h : Header). h.used) hs)
+abbrev pub ids_in_use : List Header → List ℕ
+ids_in_use hs = map (λ (h : Header). h.id.0) (those (λ (h : Header). h.used) hs)
 
 -- page id p is marked at index p - 1, and 0 never
-unfoldable pub isMarked : List Bool → ℕ → Bool
-isMarked seen zero = false
-isMarked seen (suc k) = get_or seen k false
+unfoldable pub is_marked : List Bool → ℕ → Bool
+is_marked seen zero = false
+is_marked seen (suc k) = get_or seen k false
 
 unfoldable pub mark : List Bool → ℕ → List Bool
 mark seen zero = seen
@@ -34,29 +34,29 @@ unfoldable pub marked : List Bool → List ℕ → List Bool
 marked seen [] = seen
 marked seen (n ∷ ns) = marked (mark seen n) ns
 
--- S4 for one page id of a header, by the header's expiry
-unfoldable pub heldTo : Bank → PS → ℕ → PageId → Bool
-heldTo b ps e p = is_zero p.0 || ((slot_at b ps p).used && leb e (slot_at b ps p).expires)
+-- s4 for one page id of a header, by the header's expiry
+unfoldable pub held_to : Bank → PS → ℕ → PageId → Bool
+held_to b ps e p = is_zero p.0 || ((slot_at b ps p).used && leb e (slot_at b ps p).expires)
 
 -- each page id passes the test and is not yet marked, then it is
 unfoldable pub once : (PageId → Bool) → List Bool → List PageId → Bool
 once f seen [] = true
-once f seen (p ∷ ps) = (f p && not (isMarked seen p.0)) && once f (mark seen p.0) ps
+once f seen (p ∷ ps) = (f p && not (is_marked seen p.0)) && once f (mark seen p.0) ps
 
--- a header alone, and against the slots and the map: S2 without the others' ids, S4, S5
+-- a header alone, and against the slots and the map: s2 without the others' ids, s4, s5
 unfoldable pub passes : Bank → Control → PS → List Bool → Header → Bool
 passes b c ps seen h =
     cond h.used
-    (goodHeader b c h && cond (ltb c.clock h.expires) (once (heldTo b ps h.expires) seen h.pages) true)
+    (good_header b c h && cond (ltb c.clock h.expires) (once (held_to b ps h.expires) seen h.pages) true)
     (zero_header h)
 
 -- the map after a header: a live one marks its pages
-unfoldable pub seenAfter : Bank → Control → List Bool → Header → List Bool
-seenAfter b c seen h = cond (live c.clock h && goodHeader b c h) (marked seen (ids_of h.pages)) seen
+unfoldable pub seen_after : Bank → Control → List Bool → Header → List Bool
+seen_after b c seen h = cond (live c.clock h && good_header b c h) (marked seen (ids_of h.pages)) seen
 
-unfoldable pub allPass : Bank → Control → PS → List Bool → List Header → Bool
-allPass b c ps seen [] = true
-allPass b c ps seen (h ∷ hs) = passes b c ps seen h && allPass b c ps (seenAfter b c seen h) hs
+unfoldable pub all_pass : Bank → Control → PS → List Bool → List Header → Bool
+all_pass b c ps seen [] = true
+all_pass b c ps seen (h ∷ hs) = passes b c ps seen h && all_pass b c ps (seen_after b c seen h) hs
 
 -- what is told of a header: its id where it is in use
 unfoldable pub told : Bool → Header → Checked

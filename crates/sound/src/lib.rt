@@ -1,12 +1,12 @@
-// S1 to S5 over both tables. Slot count, contents length and the map of slots seen come in at run time; a bank is a thin layer over them.
+// s1 to s5 over both tables. Slot count, contents length and the map of slots seen come in at run time; a bank is a thin layer over them.
 ghost use Rattle.std.specs.Prelude.{◌≡◌, true, ◌&&◌, ℕ, ◌+◌, ◌≤◌, length, take, drop};
-ghost use Rattle.paper.specs.Ids.{pageId};
+ghost use Rattle.paper.specs.Ids.{page_id};
 ghost use Rattle.paper.specs.Lists.{all, absent, distinct, is_zero};
-ghost use Rattle.paper.specs.Tables.{headerSlots, header_at, slot_at, standard};
-ghost use Rattle.paper.specs.Sound.{S1, goodHeader, slotSound, S3, sound};
-ghost use Rattle.paper.specs.Bytes.{headersLength, pagesLength, ids_of, hsFrom, psFrom, tablesFrom};
+ghost use Rattle.paper.specs.Tables.{header_slots, header_at, slot_at, standard};
+ghost use Rattle.paper.specs.Sound.{s1, good_header, slot_sound, s3, sound};
+ghost use Rattle.paper.specs.Bytes.{headers_length, pages_length, ids_of, hs_from, ps_from, tables_from};
 ghost use Rattle.stores.specs.Geometry.{Geometry, bank};
-ghost use Rattle.sound.specs.Seen.{Unmarked, marked, heldTo, once, passes, seenAfter, allPass, idsInUse, idWithin, told};
+ghost use Rattle.sound.specs.Seen.{Unmarked, marked, held_to, once, passes, seen_after, all_pass, ids_in_use, id_within, told};
 
 use paper::{Control, Header, PageId};
 
@@ -31,10 +31,10 @@ fn zeros(s: &[u8]) -> bool
     any == 0
 }
 
-// S1.
+// s1.
 fn control_sound(headers: &[u8]) -> bool
-    requires { length headers.now ≡ headersLength }
-    ensures { result ≡ S1 (hsFrom headers.now) }
+    requires { length headers.now ≡ headers_length }
+    ensures { result ≡ s1 (hs_from headers.now) }
 {
     let c = records::control(headers);
     if c.next == 0 {
@@ -50,7 +50,7 @@ fn control_sound(headers: &[u8]) -> bool
 fn slot_sound(pages: &[u8], slots: usize, size: usize, n: usize) -> bool
     requires geometry { Geometry slots size pages.now }
     requires le_n { (1 ≤ n) × (n ≤ slots) }
-    ensures { result ≡ slotSound (slot_at (bank slots size) (psFrom (bank slots size) pages.now) (pageId n)) }
+    ensures { result ≡ slot_sound (slot_at (bank slots size) (ps_from (bank slots size) pages.now) (page_id n)) }
 {
     let a = (n - 1) * (8 + size);
     let e = a + (8 + size);
@@ -61,10 +61,10 @@ fn slot_sound(pages: &[u8], slots: usize, size: usize, n: usize) -> bool
     zeros(s)
 }
 
-// S3.
+// s3.
 fn slots_sound(pages: &[u8], slots: usize, size: usize) -> bool
     requires { Geometry slots size pages.now }
-    ensures { result ≡ S3 (psFrom (bank slots size) pages.now) }
+    ensures { result ≡ s3 (ps_from (bank slots size) pages.now) }
 {
     let mut n = 1;
     while n <= slots {
@@ -105,7 +105,7 @@ fn all_distinct(ids: &[u32]) -> bool
 
 // No page id is above `slots`; no exit per id.
 fn ids_within(ids: [PageId; 16], slots: usize) -> bool
-    ensures { result ≡ all (idWithin slots) ids }
+    ensures { result ≡ all (id_within slots) ids }
 {
     let mut within = true;
     for k in 0..16 {
@@ -115,9 +115,9 @@ fn ids_within(ids: [PageId; 16], slots: usize) -> bool
     within
 }
 
-// S2 for a header in use, without the ids of the others.
+// s2 for a header in use, without the ids of the others.
 fn good_header(h: Header, c: Control, slots: usize) -> bool
-    ensures { (size : ℕ) → result ≡ goodHeader (bank slots size) c h }
+    ensures { (size : ℕ) → result ≡ good_header (bank slots size) c h }
 {
     let id = h.id;
     let ids = h.pages;
@@ -129,17 +129,17 @@ fn good_header(h: Header, c: Control, slots: usize) -> bool
         & ids_within(ids, slots)
 }
 
-// S4 for one page id but 0: its slot is in use and lasts as long as the header.
+// s4 for one page id but 0: its slot is in use and lasts as long as the header.
 fn page_held(pages: &[u8], slots: usize, size: usize, n: usize, expires: u32) -> bool
     requires geometry { Geometry slots size pages.now }
     requires le_n { (1 ≤ n) × (n ≤ slots) }
-    ensures { result ≡ heldTo (bank slots size) (psFrom (bank slots size) pages.now) expires (pageId n) }
+    ensures { result ≡ held_to (bank slots size) (ps_from (bank slots size) pages.now) expires (page_id n) }
 {
     let s = records::slot(pages, size, n);
     s.used & (expires <= s.expires)
 }
 
-// S4 and S5 for eight of a live header's page ids, from the one with index `from` on; no exit per id.
+// s4 and s5 for eight of a live header's page ids, from the one with index `from` on; no exit per id.
 fn held_half(
     pages: &[u8],
     slots: usize,
@@ -150,10 +150,10 @@ fn held_half(
     seen: &mut [bool],
 ) -> bool
     requires geometry { Geometry slots size pages.now }
-    requires slots_in_bounds { (slots ≤ length seen.old) × (all (idWithin slots) ids ≡ true) }
+    requires slots_in_bounds { (slots ≤ length seen.old) × (all (id_within slots) ids ≡ true) }
     requires from_bound { from + 8 ≤ 16 }
-    ensures value { result ≡ once (heldTo (bank slots size) (psFrom (bank slots size) pages.now) expires) seen.old (take 8 (drop from ids)) }
-    ensures seen_after { seen.new ≡ marked seen.old (ids_of (take 8 (drop from ids))) }
+    ensures value { result ≡ once (held_to (bank slots size) (ps_from (bank slots size) pages.now) expires) seen.old (take 8 (drop from ids)) }
+    ensures marks { seen.new ≡ marked seen.old (ids_of (take 8 (drop from ids))) }
 {
     let mut good = true;
     for k in 0..8 {
@@ -169,7 +169,7 @@ fn held_half(
     good
 }
 
-// S4 and S5 for a live header: each page id but 0 is held and not seen before, and is marked; in halves, as eight turns compile to no loop.
+// s4 and s5 for a live header: each page id but 0 is held and not seen before, and is marked; in halves, as eight turns compile to no loop.
 fn held_once(
     pages: &[u8],
     slots: usize,
@@ -179,9 +179,9 @@ fn held_once(
     seen: &mut [bool],
 ) -> bool
     requires geometry { Geometry slots size pages.now }
-    requires slots_in_bounds { (slots ≤ length seen.old) × (all (idWithin slots) ids ≡ true) }
-    ensures value { result ≡ once (heldTo (bank slots size) (psFrom (bank slots size) pages.now) expires) seen.old ids }
-    ensures seen_after { seen.new ≡ marked seen.old (ids_of ids) }
+    requires slots_in_bounds { (slots ≤ length seen.old) × (all (id_within slots) ids ≡ true) }
+    ensures value { result ≡ once (held_to (bank slots size) (ps_from (bank slots size) pages.now) expires) seen.old ids }
+    ensures marks { seen.new ≡ marked seen.old (ids_of ids) }
 {
     let first = held_half(pages, slots, size, ids, 0, expires, seen);
     let second = held_half(pages, slots, size, ids, 8, expires, seen);
@@ -198,12 +198,12 @@ fn named_sound(
     size: usize,
     seen: &mut [bool],
 ) -> Checked
-    requires headers_len { (length headers.now ≡ headersLength) × (1 ≤ n) × (n ≤ headerSlots) }
+    requires headers_len { (length headers.now ≡ headers_length) × (1 ≤ n) × (n ≤ header_slots) }
     requires geometry { Geometry slots size pages.now }
     requires slots_in_bounds { slots ≤ length seen.old }
-    requires n_value { (header_at (hsFrom headers.now) n).used ≡ true }
-    ensures value { result ≡ told (passes (bank slots size) c (psFrom (bank slots size) pages.now) seen.old (header_at (hsFrom headers.now) n)) (header_at (hsFrom headers.now) n) }
-    ensures seen_after { seen.new ≡ seenAfter (bank slots size) c seen.old (header_at (hsFrom headers.now) n) }
+    requires n_value { (header_at (hs_from headers.now) n).used ≡ true }
+    ensures value { result ≡ told (passes (bank slots size) c (ps_from (bank slots size) pages.now) seen.old (header_at (hs_from headers.now) n)) (header_at (hs_from headers.now) n) }
+    ensures marks { seen.new ≡ seen_after (bank slots size) c seen.old (header_at (hs_from headers.now) n) }
 {
     let h = records::header(headers, n);
     if !good_header(h, c, slots) {
@@ -231,11 +231,11 @@ fn header_sound(
     size: usize,
     seen: &mut [bool],
 ) -> Checked
-    requires headers_len { (length headers.now ≡ headersLength) × (1 ≤ n) × (n ≤ headerSlots) }
+    requires headers_len { (length headers.now ≡ headers_length) × (1 ≤ n) × (n ≤ header_slots) }
     requires geometry { Geometry slots size pages.now }
     requires slots_in_bounds { slots ≤ length seen.old }
-    ensures value { result ≡ told (passes (bank slots size) c (psFrom (bank slots size) pages.now) seen.old (header_at (hsFrom headers.now) n)) (header_at (hsFrom headers.now) n) }
-    ensures seen_after { seen.new ≡ seenAfter (bank slots size) c seen.old (header_at (hsFrom headers.now) n) }
+    ensures value { result ≡ told (passes (bank slots size) c (ps_from (bank slots size) pages.now) seen.old (header_at (hs_from headers.now) n)) (header_at (hs_from headers.now) n) }
+    ensures marks { seen.new ≡ seen_after (bank slots size) c seen.old (header_at (hs_from headers.now) n) }
 {
     let a = n * 36;
     let e = a + 36;
@@ -249,7 +249,7 @@ fn header_sound(
     named_sound(headers, n, c, pages, slots, size, seen)
 }
 
-// S2, S4 and S5: the ids in use are gathered before they are compared.
+// s2, s4 and s5: the ids in use are gathered before they are compared.
 fn headers_sound(
     headers: &[u8],
     c: Control,
@@ -258,10 +258,10 @@ fn headers_sound(
     size: usize,
     seen: &mut [bool],
 ) -> bool
-    requires headers_len { length headers.now ≡ headersLength }
+    requires headers_len { length headers.now ≡ headers_length }
     requires geometry { Geometry slots size pages.now }
     requires slots_in_bounds { slots ≤ length seen.old }
-    ensures { result ≡ allPass (bank slots size) c (psFrom (bank slots size) pages.now) seen.old (hsFrom headers.now).headers && distinct (idsInUse (hsFrom headers.now).headers) }
+    ensures { result ≡ all_pass (bank slots size) c (ps_from (bank slots size) pages.now) seen.old (hs_from headers.now).headers && distinct (ids_in_use (hs_from headers.now).headers) }
 {
     let mut ids = [0u32; 64];
     let mut count = 0;
@@ -282,7 +282,7 @@ fn headers_sound(
     all_distinct(&ids[..count])
 }
 
-// S1 to S5 for any bank, over a map of page slots seen that is filled while the headers are walked.
+// s1 to s5 for any bank, over a map of page slots seen that is filled while the headers are walked.
 pub fn tables_sound(
     headers: &[u8],
     pages: &[u8],
@@ -290,10 +290,10 @@ pub fn tables_sound(
     size: usize,
     seen: &mut [bool],
 ) -> bool
-    requires headers_len { length headers.now ≡ headersLength }
+    requires headers_len { length headers.now ≡ headers_length }
     requires geometry { Geometry slots size pages.now }
     requires unmarked { Unmarked slots seen.old }
-    ensures { result ≡ sound (bank slots size) (tablesFrom (bank slots size) headers.now pages.now) }
+    ensures { result ≡ sound (bank slots size) (tables_from (bank slots size) headers.now pages.now) }
 {
     if !control_sound(headers) {
         return false;
@@ -305,10 +305,10 @@ pub fn tables_sound(
     headers_sound(headers, c, pages, slots, size, seen)
 }
 
-// S1 to S5 for the bank of document 01.
+// s1 to s5 for the bank of document 01.
 pub fn standard(headers: &[u8], pages: &[u8]) -> bool
-    requires { (length headers.now ≡ headersLength) × (length pages.now ≡ pagesLength standard) }
-    ensures { result ≡ sound standard (tablesFrom standard headers.now pages.now) }
+    requires { (length headers.now ≡ headers_length) × (length pages.now ≡ pages_length standard) }
+    ensures { result ≡ sound standard (tables_from standard headers.now pages.now) }
 {
     let mut seen = [false; 256];
     tables_sound(headers, pages, 256, 120, &mut seen)

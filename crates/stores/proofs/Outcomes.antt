@@ -11,9 +11,9 @@ module _ {S : Type 0} (o : ℕ) (f : S → Try S) (s : S) where
   unfolding attempt tried
   goes n s' e h = rw (e, h)
 
-  pub goes-not : (a : ℕ) → o ≡ 0 → f s ≡ no a → done (Refused a) s ≡ attempt o f s
+  pub goes_not : (a : ℕ) → o ≡ 0 → f s ≡ no a → done (Refused a) s ≡ attempt o f s
   unfolding attempt tried
-  goes-not a e h = rw (e, h)
+  goes_not a e h = rw (e, h)
 
   pub refuses : o ≡ 1 → done (Refused 9) s ≡ attempt o f s
   unfolding attempt

@@ -1,10 +1,10 @@
 // The Header Store on a lent header table.
 ghost use Rattle.std.specs.Prelude.{◌≡◌, ◌≤◌, ◌<◌, length};
 ghost use Rattle.paper.specs.Lists.{lowest};
-ghost use Rattle.paper.specs.Tables.{headerFree, headerExpired, headerSlots, header_at};
-ghost use Rattle.paper.specs.Stores.{gone, hasId, readHeader, createHeader, replaceHeader, destroyHeader, scavengeHeaders};
+ghost use Rattle.paper.specs.Tables.{header_free, header_expired, header_slots, header_at};
+ghost use Rattle.paper.specs.Stores.{gone, has_id, read_header, create_header, replace_header, destroy_header, scavenge_headers};
 ghost use Rattle.paper.specs.Steps.{done, attempt};
-ghost use Rattle.paper.specs.Bytes.{headersLength, hsFrom};
+ghost use Rattle.paper.specs.Bytes.{headers_length, hs_from};
 ghost use Rattle.records.specs.Fits.{HeaderFits};
 
 use paper::{FileId, Found, Header, Step};
@@ -12,16 +12,16 @@ use paper::{FileId, Found, Header, Step};
 const HEADERS: usize = 64;
 
 fn free_header(headers: &[u8], n: usize, time: u32) -> bool
-    requires { (length headers.now ≡ headersLength) × (1 ≤ n) × (n ≤ headerSlots) }
-    ensures { result ≡ headerFree time (header_at (hsFrom headers.now) n) }
+    requires { (length headers.now ≡ headers_length) × (1 ≤ n) × (n ≤ header_slots) }
+    ensures { result ≡ header_free time (header_at (hs_from headers.now) n) }
 {
     let k = records::header_key(headers, n);
     if k.used { k.expires <= time } else { true }
 }
 
 fn has_id(headers: &[u8], n: usize, time: u32, id: FileId) -> bool
-    requires { (length headers.now ≡ headersLength) × (1 ≤ n) × (n ≤ headerSlots) }
-    ensures { result ≡ hasId time id (header_at (hsFrom headers.now) n) }
+    requires { (length headers.now ≡ headers_length) × (1 ≤ n) × (n ≤ header_slots) }
+    ensures { result ≡ has_id time id (header_at (hs_from headers.now) n) }
 {
     if !records::in_use_as(headers, n, id) {
         return false;
@@ -31,8 +31,8 @@ fn has_id(headers: &[u8], n: usize, time: u32, id: FileId) -> bool
 }
 
 pub fn lowest_free_header(headers: &[u8], time: u32) -> Found
-    requires { length headers.now ≡ headersLength }
-    ensures { result ≡ lowest (headerFree time) (hsFrom headers.now).headers }
+    requires { length headers.now ≡ headers_length }
+    ensures { result ≡ lowest (header_free time) (hs_from headers.now).headers }
 {
     let mut n = 1;
     while n <= HEADERS {
@@ -46,8 +46,8 @@ pub fn lowest_free_header(headers: &[u8], time: u32) -> Found
 
 // A header is found only by an id in use and live at `time`.
 pub fn find_header(headers: &[u8], time: u32, id: FileId) -> Found
-    requires { length headers.now ≡ headersLength }
-    ensures { result ≡ lowest (hasId time id) (hsFrom headers.now).headers }
+    requires { length headers.now ≡ headers_length }
+    ensures { result ≡ lowest (has_id time id) (hs_from headers.now).headers }
 {
     let mut n = 1;
     while n <= HEADERS {
@@ -61,8 +61,8 @@ pub fn find_header(headers: &[u8], time: u32, id: FileId) -> Found
 
 // Step: the header's slot number, or NoSuchFile.
 pub fn read_header(headers: &[u8], outcome: u8, time: u32, id: FileId) -> Step
-    requires { length headers.now ≡ headersLength }
-    ensures { done result (hsFrom headers.now) ≡ attempt outcome (readHeader time id) (hsFrom headers.now) }
+    requires { length headers.now ≡ headers_length }
+    ensures { done result (hs_from headers.now) ≡ attempt outcome (read_header time id) (hs_from headers.now) }
 {
     match outcome {
         0 => {
@@ -78,8 +78,8 @@ pub fn read_header(headers: &[u8], outcome: u8, time: u32, id: FileId) -> Step
 
 // Stores the header in slot n under the next id, which is raised in the same step; NoIds where there is none left.
 fn store_header(headers: &mut [u8], n: usize, h: Header) -> Step
-    requires { (length headers.old ≡ headersLength) × (1 ≤ n) × (n ≤ headerSlots) × HeaderFits h }
-    ensures { done result (hsFrom headers.new) ≡ attempt 0 (replaceHeader n h) (hsFrom headers.old) }
+    requires { (length headers.old ≡ headers_length) × (1 ≤ n) × (n ≤ header_slots) × HeaderFits h }
+    ensures { done result (hs_from headers.new) ≡ attempt 0 (replace_header n h) (hs_from headers.old) }
 {
     let c = records::control(headers);
     if c.next >= 2147483648 {
@@ -97,8 +97,8 @@ fn store_header(headers: &mut [u8], n: usize, h: Header) -> Step
 
 // Step: replacing keeps the slot.
 pub fn replace_header(headers: &mut [u8], outcome: u8, n: usize, h: Header) -> Step
-    requires { (length headers.old ≡ headersLength) × (1 ≤ n) × (n ≤ headerSlots) × HeaderFits h }
-    ensures { done result (hsFrom headers.new) ≡ attempt outcome (replaceHeader n h) (hsFrom headers.old) }
+    requires { (length headers.old ≡ headers_length) × (1 ≤ n) × (n ≤ header_slots) × HeaderFits h }
+    ensures { done result (hs_from headers.new) ≡ attempt outcome (replace_header n h) (hs_from headers.old) }
 {
     match outcome {
         0 => store_header(headers, n, h),
@@ -109,8 +109,8 @@ pub fn replace_header(headers: &mut [u8], outcome: u8, n: usize, h: Header) -> S
 
 // Step: a create takes the lowest free slot; NoSpace comes before NoIds.
 pub fn create_header(headers: &mut [u8], outcome: u8, time: u32, h: Header) -> Step
-    requires { (length headers.old ≡ headersLength) × HeaderFits h }
-    ensures { done result (hsFrom headers.new) ≡ attempt outcome (createHeader time h) (hsFrom headers.old) }
+    requires { (length headers.old ≡ headers_length) × HeaderFits h }
+    ensures { done result (hs_from headers.new) ≡ attempt outcome (create_header time h) (hs_from headers.old) }
 {
     match outcome {
         0 => {
@@ -126,8 +126,8 @@ pub fn create_header(headers: &mut [u8], outcome: u8, time: u32, h: Header) -> S
 
 // Step: zeros over the slot.
 pub fn destroy_header(headers: &mut [u8], outcome: u8, slot: usize) -> Step
-    requires { (length headers.old ≡ headersLength) × (1 ≤ slot) × (slot ≤ headerSlots) }
-    ensures { done result (hsFrom headers.new) ≡ attempt outcome (destroyHeader slot) (hsFrom headers.old) }
+    requires { (length headers.old ≡ headers_length) × (1 ≤ slot) × (slot ≤ header_slots) }
+    ensures { done result (hs_from headers.new) ≡ attempt outcome (destroy_header slot) (hs_from headers.old) }
 {
     match outcome {
         0 => {
@@ -140,8 +140,8 @@ pub fn destroy_header(headers: &mut [u8], outcome: u8, slot: usize) -> Step
 }
 
 fn expired_header(headers: &[u8], n: usize, time: u32) -> bool
-    requires { (length headers.now ≡ headersLength) × (1 ≤ n) × (n ≤ headerSlots) }
-    ensures { result ≡ headerExpired time (header_at (hsFrom headers.now) n) }
+    requires { (length headers.now ≡ headers_length) × (1 ≤ n) × (n ≤ header_slots) }
+    ensures { result ≡ header_expired time (header_at (hs_from headers.now) n) }
 {
     let k = records::header_key(headers, n);
     if k.used { k.expires <= time } else { false }
@@ -149,8 +149,8 @@ fn expired_header(headers: &[u8], n: usize, time: u32) -> bool
 
 // Zeros over every expired header; how many there were.
 fn sweep_headers(headers: &mut [u8], time: u32) -> u32
-    requires { length headers.old ≡ headersLength }
-    ensures { gone result (hsFrom headers.new) ≡ scavengeHeaders time (hsFrom headers.old) }
+    requires { length headers.old ≡ headers_length }
+    ensures { gone result (hs_from headers.new) ≡ scavenge_headers time (hs_from headers.old) }
 {
     let mut swept: u32 = 0;
     let mut n = 1;
@@ -166,8 +166,8 @@ fn sweep_headers(headers: &mut [u8], time: u32) -> u32
 
 // Step: the sweep of Scavenge over the header table.
 pub fn scavenge_headers(headers: &mut [u8], outcome: u8, time: u32) -> Step
-    requires { length headers.old ≡ headersLength }
-    ensures { done result (hsFrom headers.new) ≡ attempt outcome (scavengeHeaders time) (hsFrom headers.old) }
+    requires { length headers.old ≡ headers_length }
+    ensures { done result (hs_from headers.new) ≡ attempt outcome (scavenge_headers time) (hs_from headers.old) }
 {
     match outcome {
         0 => Step::Gone(sweep_headers(headers, time)),

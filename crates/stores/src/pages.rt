@@ -1,12 +1,12 @@
 // The Page Store on a lent page table. Slot count and contents length come in at run time.
 ghost use Rattle.std.specs.Prelude.{◌≡◌, ◌≤◌, length};
 ghost use Rattle.paper.specs.Lists.{lowest};
-ghost use Rattle.paper.specs.Ids.{pageId};
-ghost use Rattle.paper.specs.Tables.{slotFree, slotExpired, slot_at};
-ghost use Rattle.paper.specs.Stores.{gone, createPage, readPage, destroyPage, setPageExpiry, scavengePages};
+ghost use Rattle.paper.specs.Ids.{page_id};
+ghost use Rattle.paper.specs.Tables.{slot_free, slot_expired, slot_at};
+ghost use Rattle.paper.specs.Stores.{gone, create_page, read_page, destroy_page, set_page_expiry, scavenge_pages};
 ghost use Rattle.paper.specs.Steps.{done, attempt};
-ghost use Rattle.paper.specs.Bytes.{psFrom};
-ghost use Rattle.stores.specs.Geometry.{Geometry, bank, lentAfter};
+ghost use Rattle.paper.specs.Bytes.{ps_from};
+ghost use Rattle.stores.specs.Geometry.{Geometry, bank, lent_after};
 
 use paper::{Found, PageId, Step};
 use records::SlotHead;
@@ -15,7 +15,7 @@ use records::SlotHead;
 fn free_slot(pages: &[u8], slots: usize, size: usize, n: usize, time: u32) -> bool
     requires geometry { Geometry slots size pages.now }
     requires le_n { (1 ≤ n) × (n ≤ slots) }
-    ensures { result ≡ slotFree time (slot_at (bank slots size) (psFrom (bank slots size) pages.now) (pageId n)) }
+    ensures { result ≡ slot_free time (slot_at (bank slots size) (ps_from (bank slots size) pages.now) (page_id n)) }
 {
     let h = records::slot(pages, size, n);
     if h.used { h.expires <= time } else { true }
@@ -23,7 +23,7 @@ fn free_slot(pages: &[u8], slots: usize, size: usize, n: usize, time: u32) -> bo
 
 pub fn lowest_free_slot(pages: &[u8], slots: usize, size: usize, time: u32) -> Found
     requires { Geometry slots size pages.now }
-    ensures { result ≡ lowest (slotFree time) (psFrom (bank slots size) pages.now) }
+    ensures { result ≡ lowest (slot_free time) (ps_from (bank slots size) pages.now) }
 {
     let mut n = 1;
     while n <= slots {
@@ -47,7 +47,7 @@ pub fn create_page(
 ) -> Step
     requires geometry { Geometry slots size pages.old }
     requires page_len { length page.now ≡ size }
-    ensures { done result (psFrom (bank slots size) pages.new) ≡ attempt outcome (createPage time page.now expires) (psFrom (bank slots size) pages.old) }
+    ensures { done result (ps_from (bank slots size) pages.new) ≡ attempt outcome (create_page time page.now expires) (ps_from (bank slots size) pages.old) }
 {
     match outcome {
         0 => {
@@ -71,7 +71,7 @@ pub fn create_page(
 pub fn destroy_page(pages: &mut [u8], slots: usize, size: usize, outcome: u8, id: PageId) -> Step
     requires geometry { Geometry slots size pages.old }
     requires le_id { (1 ≤ id.0) × (id.0 ≤ slots) }
-    ensures { done result (psFrom (bank slots size) pages.new) ≡ attempt outcome (destroyPage (bank slots size) id) (psFrom (bank slots size) pages.old) }
+    ensures { done result (ps_from (bank slots size) pages.new) ≡ attempt outcome (destroy_page (bank slots size) id) (ps_from (bank slots size) pages.old) }
 {
     match outcome {
         0 => {
@@ -95,7 +95,7 @@ pub fn set_page_expiry(
 ) -> Step
     requires geometry { Geometry slots size pages.old }
     requires le_id { (1 ≤ id.0) × (id.0 ≤ slots) }
-    ensures { done result (psFrom (bank slots size) pages.new) ≡ attempt outcome (setPageExpiry (bank slots size) expires id) (psFrom (bank slots size) pages.old) }
+    ensures { done result (ps_from (bank slots size) pages.new) ≡ attempt outcome (set_page_expiry (bank slots size) expires id) (ps_from (bank slots size) pages.old) }
 {
     match outcome {
         0 => {
@@ -119,8 +119,8 @@ pub fn read_page(
 ) -> Step
     requires geometry { Geometry slots size pages.now }
     requires le_id { (1 ≤ id.0) × (id.0 ≤ slots) × (length lent.old ≡ size) }
-    ensures pages_value { done result (psFrom (bank slots size) pages.now) ≡ attempt outcome (readPage id) (psFrom (bank slots size) pages.now) }
-    ensures lent_after { lent.new ≡ lentAfter result (slot_at (bank slots size) (psFrom (bank slots size) pages.now) id).contents lent.old }
+    ensures pages_value { done result (ps_from (bank slots size) pages.now) ≡ attempt outcome (read_page id) (ps_from (bank slots size) pages.now) }
+    ensures lent { lent.new ≡ lent_after result (slot_at (bank slots size) (ps_from (bank slots size) pages.now) id).contents lent.old }
 {
     match outcome {
         0 => {
@@ -137,7 +137,7 @@ pub fn read_page(
 fn expired_slot(pages: &[u8], slots: usize, size: usize, n: usize, time: u32) -> bool
     requires geometry { Geometry slots size pages.now }
     requires le_n { (1 ≤ n) × (n ≤ slots) }
-    ensures { result ≡ slotExpired time (slot_at (bank slots size) (psFrom (bank slots size) pages.now) (pageId n)) }
+    ensures { result ≡ slot_expired time (slot_at (bank slots size) (ps_from (bank slots size) pages.now) (page_id n)) }
 {
     let h = records::slot(pages, size, n);
     if h.used { h.expires <= time } else { false }
@@ -146,7 +146,7 @@ fn expired_slot(pages: &[u8], slots: usize, size: usize, n: usize, time: u32) ->
 // Zeros over every expired slot; how many there were.
 fn sweep_slots(pages: &mut [u8], slots: usize, size: usize, time: u32) -> u32
     requires { Geometry slots size pages.old }
-    ensures { gone result (psFrom (bank slots size) pages.new) ≡ scavengePages (bank slots size) time (psFrom (bank slots size) pages.old) }
+    ensures { gone result (ps_from (bank slots size) pages.new) ≡ scavenge_pages (bank slots size) time (ps_from (bank slots size) pages.old) }
 {
     let mut swept: u32 = 0;
     let mut n = 1;
@@ -163,7 +163,7 @@ fn sweep_slots(pages: &mut [u8], slots: usize, size: usize, time: u32) -> u32
 // Step: the sweep of Scavenge over the page table.
 pub fn scavenge_pages(pages: &mut [u8], slots: usize, size: usize, outcome: u8, time: u32) -> Step
     requires { Geometry slots size pages.old }
-    ensures { done result (psFrom (bank slots size) pages.new) ≡ attempt outcome (scavengePages (bank slots size) time) (psFrom (bank slots size) pages.old) }
+    ensures { done result (ps_from (bank slots size) pages.new) ≡ attempt outcome (scavenge_pages (bank slots size) time) (ps_from (bank slots size) pages.old) }
 {
     match outcome {
         0 => Step::Gone(sweep_slots(pages, slots, size, time)),

@@ -6,10 +6,10 @@ use Rattle.paper.specs.Sound.{sound}
 use Rattle.paper.proofs.Computing.{computing}
 use Rattle.trials.proofs.Trials.{few, two, trials}
 
-tables-sound : sound few two ≡ true
+tables_sound : sound few two ≡ true
 unfolding computing
-tables-sound = refl
+tables_sound = refl
 
-all-kept : trials ≡ replicate 14 true
+all_kept : trials ≡ replicate 14 true
 unfolding computing
-all-kept = refl
+all_kept = refl

@@ -4,7 +4,7 @@ use mathlib.Core.Path.{◌≡◌, refl}
 use mathlib.Core.List.{List, map, zip_with}
 use Rattle.paper.specs.Tables.{Bank}
 use Rattle.paper.specs.Service.{Left}
-use Rattle.paper.specs.Sessions.{Call, sessions, shown, runBytes, formatted, shows}
+use Rattle.paper.specs.Sessions.{Call, sessions, shown, run_bytes, formatted, shows}
 use Rattle.paper.proofs.Computing.{computing}
 
 abbrev tiny : Bank
@@ -13,6 +13,6 @@ tiny = record { slots = 4; size = 8 }
 abbrev rows : List Call → List Left → List (List ℕ)
 rows cs ls = zip_with (λ (c : Call) (l : Left). shows c l.report l.page) cs ls
 
-pub byte-sessions-show : map (λ cs. rows cs (runBytes tiny cs (formatted tiny))) (sessions tiny) ≡ shown
+pub byte_sessions_show : map (λ cs. rows cs (run_bytes tiny cs (formatted tiny))) (sessions tiny) ≡ shown
 unfolding computing
-byte-sessions-show = refl
+byte_sessions_show = refl

@@ -7,6 +7,6 @@ use Rattle.paper.specs.Requests.{Reply}
 use Rattle.paper.specs.Sessions.{first, run}
 use Rattle.paper.proofs.Computing.{computing}
 
-pub sixty-fifth : map (λ (r : Reply). r.report.number) (run standard (replicate 65 (first standard)) (fresh standard)) ≡ replicate 64 0 ++ (7 ∷ [])
+pub sixty_fifth : map (λ (r : Reply). r.report.number) (run standard (replicate 65 (first standard)) (fresh standard)) ≡ replicate 64 0 ++ (7 ∷ [])
 unfolding computing
-sixty-fifth = refl
+sixty_fifth = refl

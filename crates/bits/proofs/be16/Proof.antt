@@ -1,7 +1,7 @@
 -- `be16` reads the field of 16 bits: a field of two bytes is the first times 256 and the second.
 use native.Mathlib.Omega.{arith}
 use borrow.Author.Rules.{rules}
-use Rattle.bits.proofs.Fields.{field-16}
+use Rattle.bits.proofs.Fields.{field_16}
 use Rattle.bits.proofs.be16.Statement.{statement}
 use Rattle.bits.proofs.be16.Tie as tie
 
@@ -29,7 +29,7 @@ add-result c = search rules
 returns : tie.Need-returns
 returns c =
     let s = c.before.before.before.before.before in
-    omega (arith, field-16 s.args.at s.args.s.now (λ i. (c.before.shared-slice-known3.given i).fits) s.requires)
+    omega (arith, field_16 s.args.at s.args.s.now (λ i. (c.before.shared-slice-known3.given i).fits) s.requires)
 
 pub be16-spec : {M : Type 1} → statement M
 be16-spec =

@@ -1,7 +1,7 @@
 -- `be32` reads the field of 32 bits: a field of four bytes is their sum, each times its place.
 use native.Mathlib.Omega.{arith}
 use borrow.Author.Rules.{rules}
-use Rattle.bits.proofs.Fields.{field-32}
+use Rattle.bits.proofs.Fields.{field_32}
 use Rattle.bits.proofs.be32.Statement.{statement}
 use Rattle.bits.proofs.be32.Tie as tie
 
@@ -59,7 +59,7 @@ add-result-3 c = search rules
 returns : tie.Need-returns
 returns c =
     let s = c.before.before.before.before.before.before.before.before.before in
-    omega (arith, field-32 s.args.at s.args.s.now (λ i. (c.before.shared-slice-known5.given i).fits) s.requires)
+    omega (arith, field_32 s.args.at s.args.s.now (λ i. (c.before.shared-slice-known5.given i).fits) s.requires)
 
 pub be32-spec : {M : Type 1} → statement M
 be32-spec =

@@ -6,17 +6,17 @@ use native.Mathlib.Omega.{arith}
 use lib.ListN.{length}
 use lib.Pow.{shl_exact, pow_pos}
 use borrow.Author.Rules.{rules}
-use Rattle.bits.specs.Field.{pack, halfNines}
-use Rattle.bits.proofs.Within.{within-length}
-use Rattle.bits.proofs.Layouts.{length-pack}
-use Rattle.bits.proofs.Fields.{field_back, field-none, packed}
+use Rattle.bits.specs.Field.{pack, half_nines}
+use Rattle.bits.proofs.Within.{within_length}
+use Rattle.bits.proofs.Layouts.{length_pack}
+use Rattle.bits.proofs.Fields.{field_back, field_none, packed}
 use Rattle.bits.proofs.ends.Statement.{statement}
 use Rattle.bits.proofs.ends.Tie as tie
 
 returns : tie.Need-returns
 returns c =
     let s = c.before in
-    field-none (8 * s.args.j) s.args.j (pack halfNines s.args.ids.now) (omega arith)
+    field_none (8 * s.args.j) s.args.j (pack half_nines s.args.ids.now) (omega arith)
 
 sub-result : tie.Need-overflow-sub-result
 sub-result c = search rules
@@ -25,7 +25,7 @@ mul-result : tie.Need-overflow-mul-result
 mul-result c = search rules
 
 shared-slice-read-result : tie.Need-shared-slice-read-result
-shared-slice-read-result c = omega (arith, within-length c.before.before.requires.1)
+shared-slice-read-result c = omega (arith, within_length c.before.before.requires.1)
 
 cast-result : tie.Need-overflow-cast-result
 cast-result c = search rules
@@ -46,9 +46,9 @@ returns-2 c =
     let s = c.before.before in
     let j = s.args.j in
     let vs = s.args.ids.now in
-    let b = pack halfNines vs in
+    let b = pack half_nines vs in
     let i = j - 1 in
-    let l : length b ≡ 9 = length-pack halfNines 9 refl vs in
+    let l : length b ≡ 9 = length_pack half_nines 9 refl vs in
     ap₂ (λ (m n : ℕ). m % n) (sym (packed 8 9 9 i vs refl s.requires.1 (omega arith))) (one_shl j (omega arith))
     ∙ field_back (9 * i) 9 (8 * j) j b (omega arith) (omega arith) (omega arith)
 

@@ -1,7 +1,7 @@
 -- `nine` reads the field of 9 bits: it is a part of the 16 bits that `be16` reads, with 7 - k % 8 bits after it.
 use native.Mathlib.Omega.{arith}
 use borrow.Author.Rules.{rules}
-use Rattle.bits.proofs.Fields.{field-part}
+use Rattle.bits.proofs.Fields.{field_part}
 use Rattle.bits.proofs.nine.Statement.{statement}
 use Rattle.bits.proofs.nine.Tie as tie
 
@@ -24,7 +24,7 @@ shr-result : tie.Need-overflow-shr-result
 shr-result c = search rules
 
 returns : tie.Need-returns
-returns c = rw c.be16.ensures (field-part _ 16 _ 9 _ _ (omega arith) (omega arith) (omega arith))
+returns c = rw c.be16.ensures (field_part _ 16 _ 9 _ _ (omega arith) (omega arith) (omega arith))
 
 pub nine-spec : {M : Type 1} → statement M
 nine-spec =

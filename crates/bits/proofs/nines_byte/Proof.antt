@@ -5,8 +5,8 @@ use native.Mathlib.Omega.{arith}
 use lib.ListN.{length, get_or}
 use lib.Pow.{shl_exact}
 use borrow.Author.Rules.{rules}
-use Rattle.bits.specs.Field.{field, pack, halfNines}
-use Rattle.bits.proofs.Layouts.{length-pack, pack-bytes}
+use Rattle.bits.specs.Field.{field, pack, half_nines}
+use Rattle.bits.proofs.Layouts.{length_pack, pack_bytes}
 use Rattle.bits.proofs.Fields.{field_lt, field-join, byte}
 use Rattle.bits.proofs.nines_byte.Statement.{statement}
 use Rattle.bits.proofs.nines_byte.Tie as tie
@@ -27,17 +27,17 @@ begins-requires : tie.Need-begins-requires
 begins-requires c κs = search rules
 
 abbrev wanted : tie.After-begins → ℕ
-wanted c = get_or (pack halfNines c.before.before.before.args.ids.now) c.before.before.before.args.j 0
+wanted c = get_or (pack half_nines c.before.before.before.args.ids.now) c.before.before.before.args.j 0
 
 small : (c : tie.After-begins) → wanted c < 256
-small c = pack-bytes halfNines c.before.before.before.args.ids.now c.before.before.before.args.j
+small c = pack_bytes half_nines c.before.before.before.args.ids.now c.before.before.before.args.j
 
 sum : (c : tie.After-begins) → (c.before.ends.result * 2 ^ (8 - c.before.before.before.args.j)) % 65536 + c.begins.result ≡ wanted c
 sum c =
     let j = c.before.before.before.args.j in
     let vs = c.before.before.before.args.ids.now in
-    let b = pack halfNines vs in
-    let l : length b ≡ 9 = length-pack halfNines 9 refl vs in
+    let b = pack half_nines vs in
+    let l : length b ≡ 9 = length_pack half_nines 9 refl vs in
     let w : j + (8 - j) ≡ 8 = omega arith in
     let o : 9 * j ≡ 8 * j + j = omega arith in
     let x : (field (8 * j) j b * 2 ^ (8 - j)) % 65536 ≡ field (8 * j) j b * 2 ^ (8 - j) =
@@ -45,7 +45,7 @@ sum c =
     ap₂ (λ (m n : ℕ). (m * 2 ^ (8 - j)) % 65536 + n) c.before.ends.ensures c.begins.ensures
     ∙ ap₂ (λ (m n : ℕ). m + field n (8 - j) b) x o
     ∙ sym (field-join (8 * j) j (8 - j) b (omega arith)) ∙ ap (λ (n : ℕ). field (8 * j) n b) w
-    ∙ sym (byte j (8 * j) b (pack-bytes halfNines vs) (omega arith) refl)
+    ∙ sym (byte j (8 * j) b (pack_bytes half_nines vs) (omega arith) refl)
 
 add-result : tie.Need-overflow-add-result
 add-result c = record { fits = omega (arith, sum c, small c) }

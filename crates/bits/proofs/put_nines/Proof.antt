@@ -6,23 +6,23 @@ use native.Mathlib.Omega.{arith}
 use lib.ListN.{length, take, drop}
 use lib.Seq.{take_all, take-add}
 use borrow.Author.Rules.{rules}
-use Rattle.bits.specs.Field.{pack, splice, nines, halfNines, Within}
-use Rattle.bits.proofs.Within.{within-length, within-take, within-drop}
-use Rattle.bits.proofs.Layouts.{length-pack}
+use Rattle.bits.specs.Field.{pack, splice, nines, half_nines, Within}
+use Rattle.bits.proofs.Within.{within_length, within_take, within_drop}
+use Rattle.bits.proofs.Layouts.{length_pack}
 use Rattle.bits.proofs.Splice.{splice-splice, pack-append}
 use Rattle.bits.proofs.put_nines.Statement.{statement}
 use Rattle.bits.proofs.put_nines.Tie as tie
 
-first : {vs : List ℕ} → Within nines vs → Within halfNines (take 8 vs)
-first r = within-take halfNines halfNines r
+first : {vs : List ℕ} → Within nines vs → Within half_nines (take 8 vs)
+first r = within_take half_nines half_nines r
 
-last : {vs : List ℕ} → Within nines vs → Within halfNines (take 8 (drop 8 vs))
-last r = within-take halfNines [] (within-drop halfNines halfNines r)
+last : {vs : List ℕ} → Within nines vs → Within half_nines (take 8 (drop 8 vs))
+last r = within_take half_nines [] (within_drop half_nines half_nines r)
 
-halves : (vs : List ℕ) → Within nines vs → pack nines vs ≡ pack halfNines (take 8 vs) ++ pack halfNines (take 8 (drop 8 vs))
+halves : (vs : List ℕ) → Within nines vs → pack nines vs ≡ pack half_nines (take 8 vs) ++ pack half_nines (take 8 (drop 8 vs))
 halves vs r =
-    ap (pack nines) (sym (take_all 16 vs (omega (arith, within-length r))) ∙ take-add 8 8 vs)
-    ∙ pack-append halfNines halfNines 9 9 refl refl (first r) (last r)
+    ap (pack nines) (sym (take_all 16 vs (omega (arith, within_length r))) ∙ take-add 8 8 vs)
+    ∙ pack-append half_nines half_nines 9 9 refl refl (first r) (last r)
 
 sub-put-half : tie.Need-overflow-sub-put-half
 sub-put-half c = search rules
@@ -31,7 +31,7 @@ part-put-half-start : tie.Need-slice-bounds-put-half-start
 part-put-half-start c = search rules
 
 part-put-half-end : tie.Need-slice-bounds-put-half-end
-part-put-half-end c = omega (arith, within-length c.before.before.before.requires.1)
+part-put-half-end c = omega (arith, within_length c.before.before.before.requires.1)
 
 put-half-requires : tie.Need-put-half-requires
 put-half-requires c κs = (omega arith, first c.before.before.before.before.requires.1)
@@ -46,7 +46,7 @@ part-put-half-start-2 : tie.Need-slice-bounds-put-half-start-2
 part-put-half-start-2 c = search rules
 
 part-put-half-end-2 : tie.Need-slice-bounds-put-half-end-2
-part-put-half-end-2 c = omega (arith, within-length c.before.before.before.before.before.before.before.before.requires.1)
+part-put-half-end-2 c = omega (arith, within_length c.before.before.before.before.before.before.before.before.requires.1)
 
 put-half-requires-2 : tie.Need-put-half-requires-2
 put-half-requires-2 c κs = (omega arith, last c.before.before.before.before.before.before.before.before.before.requires.1)
@@ -62,10 +62,10 @@ returns c =
     let at = s.args.at in
     let vs = s.args.ids.now in
     let xs = s.args.s.now in
-    let a = pack halfNines (take 8 vs) in
-    let b = pack halfNines (take 8 (drop 8 vs)) in
-    let la : length a ≡ 9 = length-pack halfNines 9 refl (take 8 vs) in
-    let lb : length b ≡ 9 = length-pack halfNines 9 refl (take 8 (drop 8 vs)) in
+    let a = pack half_nines (take 8 vs) in
+    let b = pack half_nines (take 8 (drop 8 vs)) in
+    let la : length a ≡ 9 = length_pack half_nines 9 refl (take 8 vs) in
+    let lb : length b ≡ 9 = length_pack half_nines 9 refl (take 8 (drop 8 vs)) in
     c2.put-half2.ensures ∙ ap (splice (at + 9) b) c1.put-half.ensures
     ∙ splice-splice at (at + 9) a b xs (omega arith) (omega arith) ∙ ap (λ (l : List ℕ). splice at l xs) (sym (halves vs s.requires.1))
 

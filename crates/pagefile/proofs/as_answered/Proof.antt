@@ -1,6 +1,6 @@
 -- `as_answered` gives the id of a Success, and 0 with any other answer.
 use borrow.Author.Rules.{rules}
-use Rattle.pagefile.proofs.Sees.{no-id}
+use Rattle.pagefile.proofs.Sees.{no_id}
 use Rattle.pagefile.proofs.as_answered.Statement.{statement}
 use Rattle.pagefile.proofs.as_answered.Tie as tie
 
@@ -13,7 +13,7 @@ enum-known-a c = search rules
 returns : tie.Need-returns
 returns c =
     let n = c.before in
-    let none = no-id n.before.args.a c.match.keys2 in
+    let none = no_id n.before.args.a c.match.keys2 in
     rw (n.number.ensures, none)
 
 returns-2 : tie.Need-returns-2

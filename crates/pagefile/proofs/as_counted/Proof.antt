@@ -1,6 +1,6 @@
 -- `as_counted` gives what Scavenge counts, and zeros with any other answer.
 use borrow.Author.Rules.{rules}
-use Rattle.pagefile.proofs.Sees.{no-counts}
+use Rattle.pagefile.proofs.Sees.{no_counts_lem}
 use Rattle.pagefile.proofs.as_counted.Statement.{statement}
 use Rattle.pagefile.proofs.as_counted.Tie as tie
 
@@ -13,7 +13,7 @@ enum-known-a c = search rules
 returns : tie.Need-returns
 returns c =
     let n = c.before in
-    let none = no-counts n.before.args.a c.match.keys2 in
+    let none = no_counts_lem n.before.args.a c.match.keys2 in
     rw (n.number.ensures, none)
 
 returns-2 : tie.Need-returns-2

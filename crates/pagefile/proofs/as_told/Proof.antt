@@ -1,6 +1,6 @@
 -- `as_told` gives what Info tells, and zeros with any other answer.
 use borrow.Author.Rules.{rules}
-use Rattle.pagefile.proofs.Sees.{no-facts}
+use Rattle.pagefile.proofs.Sees.{no_facts_lem}
 use Rattle.pagefile.proofs.as_told.Statement.{statement}
 use Rattle.pagefile.proofs.as_told.Tie as tie
 
@@ -13,7 +13,7 @@ enum-known-a c = search rules
 returns : tie.Need-returns
 returns c =
     let n = c.before in
-    let none = no-facts n.before.args.a c.match.keys2 in
+    let none = no_facts_lem n.before.args.a c.match.keys2 in
     rw (n.number.ensures, none)
 
 returns-2 : tie.Need-returns-2

@@ -4,7 +4,7 @@ use lib.Seq.{take_all}
 use mathlib.Core.Path.{◌≡◌, ap, ◌∙◌}
 use Prim.Native.Nat.{ℕ, ◌+◌, ◌-◌, ◌*◌}
 use native.Mathlib.Omega.{arith}
-use Rattle.paper.specs.Bytes.{slotFrom}
+use Rattle.paper.specs.Bytes.{slot_from}
 use borrow.Author.Rules.{rules}
 use Rattle.records.proofs.contents.Statement.{statement}
 use Rattle.records.proofs.contents.Tie as tie
@@ -43,7 +43,7 @@ part-result-end : tie.Need-slice-bounds-result-end
 part-result-end c = search rules
 
 returns : tie.Need-returns
-unfolding slotFrom
+unfolding slot_from
 returns c =
     let s = c.before.before in
     let w = 8 + s.args.size in

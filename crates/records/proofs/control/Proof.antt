@@ -2,7 +2,7 @@
 use mathlib.Core.Path.{◌∙◌}
 use lib.ListN.{take}
 use lib.Seq.{length-take-le}
-use Rattle.records.proofs.Read.{control-fields}
+use Rattle.records.proofs.Read.{control_fields}
 use borrow.Author.Rules.{rules}
 use Rattle.records.proofs.control.Statement.{statement}
 use Rattle.records.proofs.control.Tie as tie
@@ -27,7 +27,7 @@ returns c =
     let s = c.before.before.before.before in
     let r = take 36 s.args.headers.now in
     (λ i. record { next = c.before.be32.ensures i; clock = c.be322.ensures i })
-    ∙ control-fields r (length-take-le 36 s.args.headers.now s.requires)
+    ∙ control_fields r (length-take-le 36 s.args.headers.now s.requires)
 
 pub control-spec : {M : Type 1} → statement M
 control-spec =

@@ -3,7 +3,7 @@ use mathlib.Core.Path.{◌≡◌, ap, ◌∙◌}
 use Prim.Native.Nat.{ℕ, ◌+◌, ◌-◌, ◌*◌}
 use native.Mathlib.Omega.{arith}
 use lib.ListN.{take, drop}
-use Rattle.paper.specs.Bytes.{headerFrom}
+use Rattle.paper.specs.Bytes.{header_from}
 use borrow.Author.Rules.{rules}
 use Rattle.records.proofs.header.Statement.{statement}
 use Rattle.records.proofs.header.Tie as tie
@@ -31,7 +31,7 @@ returns c =
     let s = c.before.before.before in
     let a = s.args.n * 36 in
     let e : a + 36 - a ≡ 36 = omega arith in
-    c.unpack-header.ensures ∙ ap (λ (k : ℕ). headerFrom (take k (drop a s.args.headers.now))) e
+    c.unpack-header.ensures ∙ ap (λ (k : ℕ). header_from (take k (drop a s.args.headers.now))) e
 
 pub header-spec : {M : Type 1} → statement M
 header-spec =

@@ -3,7 +3,7 @@ use mathlib.Core.Path.{◌≡◌, ap, ◌∙◌}
 use Prim.Native.Nat.{ℕ, ◌+◌, ◌-◌, ◌*◌}
 use native.Mathlib.Omega.{arith}
 use lib.ListN.{take, drop}
-use Rattle.paper.specs.Bytes.{headerFrom}
+use Rattle.paper.specs.Bytes.{header_from}
 use Rattle.records.specs.Fits.{key_of}
 use borrow.Author.Rules.{rules}
 use Rattle.records.proofs.header_key.Statement.{statement}
@@ -32,7 +32,7 @@ returns c =
     let s = c.before.before.before in
     let a = s.args.n * 36 in
     let e : a + 36 - a ≡ 36 = omega arith in
-    c.unpack-key.ensures ∙ ap (λ (k : ℕ). key_of (headerFrom (take k (drop a s.args.headers.now)))) e
+    c.unpack-key.ensures ∙ ap (λ (k : ℕ). key_of (header_from (take k (drop a s.args.headers.now)))) e
 
 pub header-key-spec : {M : Type 1} → statement M
 header-key-spec =

@@ -3,8 +3,8 @@ use mathlib.Core.Path.{◌≡◌, ap, ◌∙◌}
 use Prim.Native.Nat.{ℕ, ◌+◌, ◌-◌, ◌*◌}
 use native.Mathlib.Omega.{arith}
 use lib.ListN.{take, drop}
-use Rattle.paper.specs.Bytes.{headerFrom}
-use Rattle.records.specs.Fits.{inUseAs}
+use Rattle.paper.specs.Bytes.{header_from}
+use Rattle.records.specs.Fits.{in_use_as}
 use borrow.Author.Rules.{rules}
 use Rattle.records.proofs.in_use_as.Statement.{statement}
 use Rattle.records.proofs.in_use_as.Tie as tie
@@ -32,7 +32,7 @@ returns c =
     let s = c.before.before.before in
     let a = s.args.n * 36 in
     let e : a + 36 - a ≡ 36 = omega arith in
-    c.word-is.ensures ∙ ap (λ (k : ℕ). inUseAs s.args.id (headerFrom (take k (drop a s.args.headers.now)))) e
+    c.word-is.ensures ∙ ap (λ (k : ℕ). in_use_as s.args.id (header_from (take k (drop a s.args.headers.now)))) e
 
 pub in-use-as-spec : {M : Type 1} → statement M
 in-use-as-spec =

@@ -7,7 +7,7 @@ use lib.ListN.{length, take, drop, set, replicate, length-map, get_or-map}
 use lib.Seq.{take_all}
 use Rattle.bits.proofs.Fill.{fill_suc}
 use Rattle.paper.specs.declared.PageId.{PageId}
-use Rattle.paper.specs.Ids.{pageId}
+use Rattle.paper.specs.Ids.{page_id}
 use Rattle.paper.specs.Bytes.{ids_of}
 use borrow.Author.Rules.{rules}
 use Rattle.records.proofs.numbers.Statement.{statement}
@@ -47,7 +47,7 @@ loop-again c =
     let long : length pages ≡ 16 = search rules in
     let k<16 : l.k < 16 = omega arith in (
       omega arith,
-      ap₂ (λ (x : List ℕ) (v : ℕ). set x l.k v) l.invariant.1 (sym (get_or-map (λ (p : PageId). p.0) pages l.k (pageId 0)))
+      ap₂ (λ (x : List ℕ) (v : ℕ). set x l.k v) l.invariant.1 (sym (get_or-map (λ (p : PageId). p.0) pages l.k (page_id 0)))
           ∙ fill_suc (replicate 16 0) (ids_of pages) l.k 0 k<16 (omega (arith, length-map pages (λ (p : PageId). p.0), long)),
     )
 

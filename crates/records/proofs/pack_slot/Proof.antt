@@ -3,8 +3,8 @@ use mathlib.Core.Path.{sym, ap, ◌∙◌}
 use Prim.Native.Nat.{ℕ, ◌+◌, ◌*◌, ◌^◌, ◌<◌}
 use Rattle.bits.specs.Field.{be, splice}
 use Rattle.paper.specs.Bytes.{bit}
-use Rattle.records.specs.Fits.{slotWith}
-use Rattle.records.proofs.Write.{slot-parts, slot-over}
+use Rattle.records.specs.Fits.{slot_with}
+use Rattle.records.proofs.Write.{slot_parts, slot_over}
 use borrow.Author.Rules.{rules}
 use Rattle.records.proofs.pack_slot.Statement.{statement}
 use Rattle.records.proofs.pack_slot.Tie as tie
@@ -45,10 +45,10 @@ returns c =
     let h = s.args.head in
     let page = s.args.page.now in
     let xs = s.args.s.now in
-    slot-over (bit h.used * 2147483648 + h.spare) h.expires page xs _ _ s.requires.0
+    slot_over (bit h.used * 2147483648 + h.spare) h.expires page xs _ _ s.requires.0
     (c2.put322.ensures ∙ ap (splice 4 (be 4 h.expires)) (c1.put32.ensures ∙ ap (λ (n : ℕ). splice 0 (be 4 n) xs) c1.before.first_word.ensures))
     c3.copy.ensures.1
-    ∙ sym (slot-parts (slotWith h page) s.requires.1 (expires-fit s))
+    ∙ sym (slot_parts (slot_with h page) s.requires.1 (expires-fit s))
 
 pub pack-slot-spec : {M : Type 1} → statement M
 pack-slot-spec =

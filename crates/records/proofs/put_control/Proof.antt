@@ -1,7 +1,7 @@
 -- `put_control` writes the first two fields of the control record; the spare bits stay.
 use mathlib.Core.Path.{ap, ◌∙◌}
 use Rattle.bits.specs.Field.{be, splice}
-use Rattle.records.proofs.Write.{control-over}
+use Rattle.records.proofs.Write.{control_over}
 use borrow.Author.Rules.{rules}
 use Rattle.records.proofs.put_control.Statement.{statement}
 use Rattle.records.proofs.put_control.Tie as tie
@@ -22,7 +22,7 @@ returns c =
     let s = c1.before.before.before in
     let k = s.args.c in
     c2.put322.ensures ∙ ap (splice 4 (be 4 k.clock)) c1.put32.ensures
-    ∙ control-over k s.args.headers.now (λ i. (c1.before.before.slice-known.given i).fits) s.requires (search rules) (search rules)
+    ∙ control_over k s.args.headers.now (λ i. (c1.before.before.slice-known.given i).fits) s.requires (search rules) (search rules)
 
 pub put-control-spec : {M : Type 1} → statement M
 put-control-spec = tie.close (tie.spec put32-requires put32-requires-2 same_length returns)

@@ -6,10 +6,10 @@ use native.Mathlib.Omega.{arith}
 use lib.ListN.{length, take, drop, length-drop}
 use lib.Seq.{length-take-le}
 use borrow.Rule.Slice.PartMut.{put_mid}
-use Rattle.bits.proofs.Splice.{splice-part}
+use Rattle.bits.proofs.Splice.{splice_part}
 use Rattle.paper.specs.Stores.{expiring}
-use Rattle.paper.specs.Bytes.{slotBytes, slotFrom}
-use Rattle.records.proofs.Records.{slot-long}
+use Rattle.paper.specs.Bytes.{slot_bytes, slot_from}
+use Rattle.records.proofs.Records.{slot_long}
 use borrow.Author.Rules.{rules}
 use Rattle.records.proofs.put_expires.Statement.{statement}
 use Rattle.records.proofs.put_expires.Tie as tie
@@ -45,7 +45,7 @@ same_length : tie.Need-same-length
 same_length c = search rules
 
 returns : tie.Need-returns
-unfolding slotFrom
+unfolding slot_from
 returns c =
     let s = c.before.before.before.before.before in
     let w = 8 + s.args.size in
@@ -54,9 +54,9 @@ returns c =
     let slot = take w (drop a xs) in
     let e : a + w - a ≡ w = omega arith in
     let l : length slot ≡ w = length-take-le w (drop a xs) (omega (arith, length-drop a xs)) in
-    let ys = expiring s.args.expires (slotFrom slot) in
-    ap₂ (λ (k : ℕ) (l : List ℕ). put_mid a k xs l) e (c.before.before.renew.ensures ∙ ap (λ (k : ℕ). slotBytes (expiring s.args.expires (slotFrom (take k (drop a xs))))) e)
-    ∙ splice-part a w (slotBytes ys) xs (omega (arith, slot-long ys, length-drop 8 slot))
+    let ys = expiring s.args.expires (slot_from slot) in
+    ap₂ (λ (k : ℕ) (l : List ℕ). put_mid a k xs l) e (c.before.before.renew.ensures ∙ ap (λ (k : ℕ). slot_bytes (expiring s.args.expires (slot_from (take k (drop a xs))))) e)
+    ∙ splice_part a w (slot_bytes ys) xs (omega (arith, slot_long ys, length-drop 8 slot))
 
 pub put-expires-spec : {M : Type 1} → statement M
 put-expires-spec =

@@ -4,9 +4,9 @@ use mathlib.Core.List.{List}
 use Prim.Native.Nat.{ℕ, ◌+◌, ◌-◌, ◌*◌}
 use native.Mathlib.Omega.{arith}
 use borrow.Rule.Slice.PartMut.{put_mid}
-use Rattle.bits.proofs.Layouts.{length-pack}
-use Rattle.bits.proofs.Splice.{splice-part}
-use Rattle.paper.specs.Bytes.{headerLayout, headerValues, headerBytes}
+use Rattle.bits.proofs.Layouts.{length_pack}
+use Rattle.bits.proofs.Splice.{splice_part}
+use Rattle.paper.specs.Bytes.{header_layout, header_values, header_bytes}
 use borrow.Author.Rules.{rules}
 use Rattle.records.proofs.put_header.Statement.{statement}
 use Rattle.records.proofs.put_header.Tie as tie
@@ -33,7 +33,7 @@ same_length : tie.Need-same-length
 same_length c = search rules
 
 returns : tie.Need-returns
-unfolding headerBytes
+unfolding header_bytes
 returns c =
     let s = c.before.before.before.before.before in
     let a = s.args.n * 36 in
@@ -41,7 +41,7 @@ returns c =
     let h = s.args.h in
     let e : a + 36 - a ≡ 36 = omega arith in
     ap₂ (λ (k : ℕ) (ys : List ℕ). put_mid a k xs ys) e c.before.before.pack-header.ensures
-    ∙ splice-part a 36 (headerBytes h) xs (length-pack headerLayout 36 refl (headerValues h))
+    ∙ splice_part a 36 (header_bytes h) xs (length_pack header_layout 36 refl (header_values h))
 
 pub put-header-spec : {M : Type 1} → statement M
 put-header-spec =

@@ -1,13 +1,13 @@
 -- `put_slot` writes slot n and nothing else.
-use Rattle.records.proofs.Records.{slot-long}
+use Rattle.records.proofs.Records.{slot_long}
 use mathlib.Core.Path.{◌≡◌, ap₂, ◌∙◌}
 use mathlib.Core.List.{List}
 use Prim.Native.Nat.{ℕ, ◌+◌, ◌-◌, ◌*◌}
 use native.Mathlib.Omega.{arith}
 use borrow.Rule.Slice.PartMut.{put_mid}
-use Rattle.bits.proofs.Splice.{splice-part}
-use Rattle.paper.specs.Bytes.{slotBytes}
-use Rattle.records.specs.Fits.{slotWith}
+use Rattle.bits.proofs.Splice.{splice_part}
+use Rattle.paper.specs.Bytes.{slot_bytes}
+use Rattle.records.specs.Fits.{slot_with}
 use borrow.Author.Rules.{rules}
 use Rattle.records.proofs.put_slot.Statement.{statement}
 use Rattle.records.proofs.put_slot.Tie as tie
@@ -48,10 +48,10 @@ returns c =
     let w = 8 + s.args.size in
     let a = (s.args.n - 1) * w in
     let xs = s.args.pages.now in
-    let ys = slotWith s.args.head s.args.page.now in
+    let ys = slot_with s.args.head s.args.page.now in
     let e : a + w - a ≡ w = omega arith in
     ap₂ (λ (k : ℕ) (l : List ℕ). put_mid a k xs l) e c.before.before.pack-slot.ensures
-    ∙ splice-part a w (slotBytes ys) xs (omega (arith, slot-long ys))
+    ∙ splice_part a w (slot_bytes ys) xs (omega (arith, slot_long ys))
 
 pub put-slot-spec : {M : Type 1} → statement M
 put-slot-spec =

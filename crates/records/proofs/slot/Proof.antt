@@ -3,7 +3,7 @@ use mathlib.Core.Path.{◌≡◌, ap, ◌∙◌}
 use Prim.Native.Nat.{ℕ, ◌+◌, ◌-◌, ◌*◌}
 use native.Mathlib.Omega.{arith}
 use lib.ListN.{take, drop}
-use Rattle.paper.specs.Bytes.{slotFrom}
+use Rattle.paper.specs.Bytes.{slot_from}
 use Rattle.records.specs.Fits.{head_of}
 use borrow.Author.Rules.{rules}
 use Rattle.records.proofs.slot.Statement.{statement}
@@ -42,7 +42,7 @@ returns c =
     let w = 8 + s.args.size in
     let a = (s.args.n - 1) * w in
     let e : a + w - a ≡ w = omega arith in
-    c.unpack-slot.ensures ∙ ap (λ (k : ℕ). head_of (slotFrom (take k (drop a s.args.pages.now)))) e
+    c.unpack-slot.ensures ∙ ap (λ (k : ℕ). head_of (slot_from (take k (drop a s.args.pages.now)))) e
 
 pub slot-spec : {M : Type 1} → statement M
 slot-spec =

@@ -2,7 +2,7 @@
 use mathlib.Core.Path.{sym, ap, ◌∙◌}
 use native.Mathlib.Omega.{arith}
 use Rattle.paper.specs.declared.Header.{Header}
-use Rattle.records.proofs.Read.{header-fields, word-used, word_number}
+use Rattle.records.proofs.Read.{header_fields, word_used, word_number}
 use borrow.Author.Rules.{rules}
 use Rattle.records.proofs.unpack_header.Statement.{statement}
 use Rattle.records.proofs.unpack_header.Tie as tie
@@ -30,9 +30,9 @@ returns c =
     let s = c.before.before.before.before.before.before.before in
     let r = s.args.r.now in
     let word = c.before.before.before.before.before.be32 in
-    let fields = header-fields r s.requires in
+    let fields = header_fields r s.requires in
     (λ i. record {
-      used = word-used word.result r (omega arith) word.ensures i;
+      used = word_used word.result r (omega arith) word.ensures i;
       id = record { 0 = word_number word.result r (omega arith) word.ensures i };
       owner = c.before.before.before.before.be16.ensures i;
       created = c.before.before.before.be322.ensures i;

@@ -2,7 +2,7 @@
 use mathlib.Core.Path.{ap, ◌∙◌}
 use native.Mathlib.Omega.{arith}
 use Rattle.records.specs.Fits.{key_of}
-use Rattle.records.proofs.Read.{header-fields, word-used}
+use Rattle.records.proofs.Read.{header_fields, word_used}
 use borrow.Author.Rules.{rules}
 use Rattle.records.proofs.unpack_key.Statement.{statement}
 use Rattle.records.proofs.unpack_key.Tie as tie
@@ -19,10 +19,10 @@ returns c =
     let r = s.args.r.now in
     let word = c.before.be32 in
     (λ i. record {
-      used = word-used word.result r (omega arith) word.ensures i;
+      used = word_used word.result r (omega arith) word.ensures i;
       expires = c.be322.ensures i;
     })
-    ∙ ap key_of (header-fields r s.requires)
+    ∙ ap key_of (header_fields r s.requires)
 
 pub unpack-key-spec : {M : Type 1} → statement M
 unpack-key-spec = tie.close (tie.spec be32-requires be32-requires-2 returns)

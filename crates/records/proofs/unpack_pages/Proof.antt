@@ -7,14 +7,14 @@ use lib.ListN.{get_or, take, drop, set, replicate}
 use Rattle.bits.proofs.Fill.{fill_suc}
 use Rattle.paper.specs.declared.Header.{Header}
 use Rattle.paper.specs.declared.PageId.{PageId}
-use Rattle.paper.specs.Ids.{pageId}
-use Rattle.records.proofs.Read.{header-fields, pagesIn, page-at}
+use Rattle.paper.specs.Ids.{page_id}
+use Rattle.records.proofs.Read.{header_fields, pages_in, page_at_lem}
 use borrow.Author.Rules.{rules}
 use Rattle.records.proofs.unpack_pages.Statement.{statement}
 use Rattle.records.proofs.unpack_pages.Tie as tie
 
 abbrev invariant-loop : tie.invariant-loop
-invariant-loop r pages₀ k₀ pages k = (k ≤ 16) × (pages ≡ take k (pagesIn r) ++ drop k pages₀)
+invariant-loop r pages₀ k₀ pages k = (k ≤ 16) × (pages ≡ take k (pages_in r) ++ drop k pages₀)
 
 abbrev decreases-loop : tie.decreases-loop
 decreases-loop r pages₀ k₀ pages k = 16 - k
@@ -42,17 +42,17 @@ loop-again c =
     let l = c.before.before.loop in
     let r = c.before.before.before.before.args.r.now in
     let k<16 : l.k < 16 = omega arith in
-    let e : pageId c.nine.result ≡ get_or (pagesIn r) l.k (pageId 0) = ap pageId c.nine.ensures ∙ page-at r l.k k<16 in (
+    let e : page_id c.nine.result ≡ get_or (pages_in r) l.k (page_id 0) = ap page_id c.nine.ensures ∙ page_at_lem r l.k k<16 in (
       omega arith,
-      ap₂ (λ (x : List PageId) (v : PageId). set x l.k v) l.invariant.1 e ∙ fill_suc (replicate 16 (pageId 0)) (pagesIn r) l.k (pageId 0) k<16 k<16,
+      ap₂ (λ (x : List PageId) (v : PageId). set x l.k v) l.invariant.1 e ∙ fill_suc (replicate 16 (page_id 0)) (pages_in r) l.k (page_id 0) k<16 k<16,
     )
 
 returns : tie.Need-returns invariant-loop decreases-loop
 returns c =
     let s = c.before.before.before in
     let e : c.before.loop.k ≡ 16 = omega arith in
-    c.before.loop.invariant.1 ∙ ap (λ (k : ℕ). take k (pagesIn s.args.r.now) ++ drop k (replicate 16 (pageId 0))) e
-    ∙ ap (λ (h : Header). h.pages) (header-fields s.args.r.now s.requires)
+    c.before.loop.invariant.1 ∙ ap (λ (k : ℕ). take k (pages_in s.args.r.now) ++ drop k (replicate 16 (page_id 0))) e
+    ∙ ap (λ (h : Header). h.pages) (header_fields s.args.r.now s.requires)
 
 pub unpack-pages-spec : {M : Type 1} → statement M
 unpack-pages-spec =

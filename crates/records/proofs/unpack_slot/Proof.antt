@@ -4,7 +4,7 @@ use native.Mathlib.Omega.{arith}
 use lib.ListN.{length, take}
 use lib.Seq.{length-take-le}
 use Rattle.records.specs.Fits.{head_of}
-use Rattle.records.proofs.Read.{slot-fields, word-used, word_number}
+use Rattle.records.proofs.Read.{slot_fields, word_used, word_number}
 use borrow.Author.Rules.{rules}
 use Rattle.records.proofs.unpack_slot.Statement.{statement}
 use Rattle.records.proofs.unpack_slot.Tie as tie
@@ -31,11 +31,11 @@ returns c =
     let l : length r ≡ 8 = length-take-le 8 s.args.s.now s.requires in
     let word = c.before.be32 in
     (λ i. record {
-      used = word-used word.result r (omega arith) word.ensures i;
+      used = word_used word.result r (omega arith) word.ensures i;
       spare = word_number word.result r (omega arith) word.ensures i;
       expires = c.be322.ensures i;
     })
-    ∙ ap head_of (slot-fields s.args.s.now s.requires)
+    ∙ ap head_of (slot_fields s.args.s.now s.requires)
 
 pub unpack-slot-spec : {M : Type 1} → statement M
 unpack-slot-spec =

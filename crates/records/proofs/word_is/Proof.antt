@@ -1,11 +1,11 @@
 -- `word_is` goes by the first word: in use is its first bit, the id the 31 after it.
 use borrow.Author.Rules.{rules}
-use Rattle.records.proofs.Read.{large-unused, whole_word}
+use Rattle.records.proofs.Read.{large_unused, whole_word}
 use Rattle.records.proofs.word_is.Statement.{statement}
 use Rattle.records.proofs.word_is.Tie as tie
 
 returns : tie.Need-returns
-returns c = large-unused _ c.before.before.before.requires _ c.if1.true
+returns c = large_unused _ c.before.before.before.requires _ c.if1.true
 
 be32-requires : tie.Need-be32-requires
 be32-requires c κs = search rules

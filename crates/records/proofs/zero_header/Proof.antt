@@ -6,7 +6,7 @@ use native.Mathlib.Omega.{arith}
 use lib.ListN.{length, take, drop, replicate, length-drop}
 use lib.Seq.{length-take-le}
 use borrow.Rule.Slice.PartMut.{put_mid}
-use Rattle.bits.proofs.Splice.{splice-part}
+use Rattle.bits.proofs.Splice.{splice_part}
 use borrow.Author.Rules.{rules}
 use Rattle.records.proofs.zero_header.Statement.{statement}
 use Rattle.records.proofs.zero_header.Tie as tie
@@ -40,7 +40,7 @@ returns c =
     let e : a + 36 - a ≡ 36 = omega arith in
     let l : length (take 36 (drop a xs)) ≡ 36 = length-take-le 36 (drop a xs) (omega (arith, length-drop a xs)) in
     let zeros = c.before.before.zero.ensures ∙ ap (λ (k : ℕ). replicate (length (take k (drop a xs))) 0) e ∙ ap (λ (k : ℕ). replicate k 0) l in
-    ap₂ (λ (k : ℕ) (l : List ℕ). put_mid a k xs l) e zeros ∙ splice-part a 36 (replicate 36 0) xs refl
+    ap₂ (λ (k : ℕ) (l : List ℕ). put_mid a k xs l) e zeros ∙ splice_part a 36 (replicate 36 0) xs refl
 
 pub zero-header-spec : {M : Type 1} → statement M
 zero-header-spec =

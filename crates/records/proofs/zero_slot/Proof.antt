@@ -6,7 +6,7 @@ use native.Mathlib.Omega.{arith}
 use lib.ListN.{length, take, drop, replicate, length-drop, length-replicate}
 use lib.Seq.{length-take-le}
 use borrow.Rule.Slice.PartMut.{put_mid}
-use Rattle.bits.proofs.Splice.{splice-part}
+use Rattle.bits.proofs.Splice.{splice_part}
 use borrow.Author.Rules.{rules}
 use Rattle.records.proofs.zero_slot.Statement.{statement}
 use Rattle.records.proofs.zero_slot.Tie as tie
@@ -50,7 +50,7 @@ returns c =
     let e : a + w - a ≡ w = omega arith in
     let l : length (take w (drop a xs)) ≡ w = length-take-le w (drop a xs) (omega (arith, length-drop a xs)) in
     let zeros = c.before.before.zero.ensures ∙ ap (λ (k : ℕ). replicate (length (take k (drop a xs))) 0) e ∙ ap (λ (k : ℕ). replicate k 0) l in
-    ap₂ (λ (k : ℕ) (l : List ℕ). put_mid a k xs l) e zeros ∙ splice-part a w (replicate w 0) xs (length-replicate w 0)
+    ap₂ (λ (k : ℕ) (l : List ℕ). put_mid a k xs l) e zeros ∙ splice_part a w (replicate w 0) xs (length-replicate w 0)
 
 pub zero-slot-spec : {M : Type 1} → statement M
 zero-slot-spec =

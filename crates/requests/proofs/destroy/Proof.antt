@@ -4,13 +4,13 @@ use mathlib.Core.Bool.{false}
 use mathlib.Core.List.{[]}
 use Prim.Native.Nat.{◌≤◌}
 use native.Mathlib.Omega.{arith}
-use Rattle.paper.specs.Tables.{headerSlots}
-use Rattle.paper.specs.Bytes.{hsFrom}
+use Rattle.paper.specs.Tables.{header_slots}
+use Rattle.paper.specs.Bytes.{hs_from}
 use Rattle.rows.proofs.Told.{tells}
-use Rattle.requests.proofs.Conditions.{destroy-refuses, at_slot}
-use Rattle.requests.proofs.Endings.{opened-told, opened-slot, deeds-told}
+use Rattle.requests.proofs.Conditions.{destroy_refuses, at_slot}
+use Rattle.requests.proofs.Endings.{opened_told, opened_slot, deeds_told}
 use Rattle.requests.proofs.Named.{opens, read_named}
-use Rattle.requests.proofs.Owned.{destroy-stops, destroy-stops-second, destroy-stops-third, destroy-ends}
+use Rattle.requests.proofs.Owned.{destroy_stops, destroy_stops_second, destroy_stops_third, destroy_ends}
 use borrow.Author.Rules.{rules}
 use Rattle.requests.proofs.destroy.Statement.{statement}
 use Rattle.requests.proofs.destroy.Tie as tie
@@ -22,7 +22,7 @@ enum-known-first : tie.Need-enum-known-first
 enum-known-first c = search rules
 
 ended-requires : tie.Need-ended-requires
-ended-requires c κs = opened-told _ _ _ _ _ [] _ (c.before.before.before.«open».ensures.1 [])
+ended-requires c κs = opened_told _ _ _ _ _ [] _ (c.before.before.before.«open».ensures.1 [])
 
 same_length : tie.Need-same-length
 same_length c = search rules
@@ -30,7 +30,7 @@ same_length c = search rules
 returns : tie.Need-returns
 returns c =
     let o = c.before.before.before.before.«open» in
-    destroy-stops _ _ _ _ _ _ _ _ _ o.ensures.0 (o.ensures.1 _) c.ended.result c.before.match.keys2 c.ended.ensures
+    destroy_stops _ _ _ _ _ _ _ _ _ o.ensures.0 (o.ensures.1 _) c.ended.result c.before.match.keys2 c.ended.ensures
 
 cast-header : tie.Need-overflow-cast-header
 cast-header c = search rules
@@ -39,8 +39,8 @@ abbrev start : tie.After-known-told → tie.Start
 start c = c.before.before.before.before.before.before.before.before.before.before
 
 -- the header was opened in slot n
-here : (c : tie.After-known-told) → (1 ≤ c.before.first.given.0.0) × (c.before.first.given.0.0 ≤ headerSlots)
-here c = opened-slot _ _ _ _ _ [] _ (c.before.before.before.before.before.«open».ensures.1 []) _ c.before.first.given.1
+here : (c : tie.After-known-told) → (1 ≤ c.before.first.given.0.0) × (c.before.first.given.0.0 ≤ header_slots)
+here c = opened_slot _ _ _ _ _ [] _ (c.before.before.before.before.before.«open».ensures.1 []) _ c.before.first.given.1
 
 header-requires : tie.Need-header-requires
 header-requires c κs = let i = here c.before in omega arith
@@ -60,7 +60,7 @@ enum_told : tie.Need-enum-told
 enum_told c = search rules
 
 ended-requires-2 : tie.Need-ended-requires-2
-ended-requires-2 c κs = tells _ _ _ _ _ (destroy-refuses _ _) c.before.before.before.destroy-header.ensures
+ended-requires-2 c κs = tells _ _ _ _ _ (destroy_refuses _ _) c.before.before.before.destroy-header.ensures
 
 same-length-2 : tie.Need-same-length-2
 same-length-2 c = search rules
@@ -71,7 +71,7 @@ returns-2 c =
     let h = d.before.before.before in
     let k = h.before.before in
     let o = k.before.before.before.before.before.«open» in
-    destroy-stops-second _ _ _ _ _ _ _ _ _ o.ensures.0 (o.ensures.1 _) _ _ k.before.first.given.1 (at_slot _ _ _ (here k) h.header.ensures) _ _ d.destroy-header.ensures
+    destroy_stops_second _ _ _ _ _ _ _ _ _ o.ensures.0 (o.ensures.1 _) _ _ k.before.first.given.1 (at_slot _ _ _ (here k) h.header.ensures) _ _ d.destroy-header.ensures
     c.ended2.result c.before.match2.keys2 c.ended2.ensures
 
 each-page-requires : tie.Need-each-page-requires
@@ -86,7 +86,7 @@ enum-told-2 : tie.Need-enum-told-2
 enum-told-2 c = search rules
 
 ended-requires-3 : tie.Need-ended-requires-3
-ended-requires-3 c κs = deeds-told _ _ _ _ _ _ _ _ (c.before.before.before.each-page.ensures.1 false (hsFrom []))
+ended-requires-3 c κs = deeds_told _ _ _ _ _ _ _ _ (c.before.before.before.each-page.ensures.1 false (hs_from []))
 
 same-length-3 : tie.Need-same-length-3
 same-length-3 c = search rules
@@ -101,7 +101,7 @@ returns-3 c =
     let h = d.before.before.before in
     let k = h.before.before in
     let o = k.before.before.before.before.before.«open» in
-    destroy-stops-third _ _ _ _ _ _ _ _ _ o.ensures.0 (o.ensures.1 _) _ _ k.before.first.given.1 (at_slot _ _ _ (here k) h.header.ensures) _ _ d.destroy-header.ensures
+    destroy_stops_third _ _ _ _ _ _ _ _ _ o.ensures.0 (o.ensures.1 _) _ _ k.before.first.given.1 (at_slot _ _ _ (here k) h.header.ensures) _ _ d.destroy-header.ensures
     _ p.before.before.before.enum_told.given.1 _ _ _ p.each-page.ensures.1 c.ended3.result c.before.match3.keys2 c.ended3.ensures
 
 same-length-5 : tie.Need-same-length-5
@@ -117,7 +117,7 @@ returns-4 c =
     let h = d.before.before.before in
     let k = h.before.before in
     let o = k.before.before.before.before.before.«open» in
-    destroy-ends _ _ _ _ _ _ _ _ _ o.ensures.0 (o.ensures.1 _) _ _ k.before.first.given.1 (at_slot _ _ _ (here k) h.header.ensures) _ _ d.destroy-header.ensures
+    destroy_ends _ _ _ _ _ _ _ _ _ o.ensures.0 (o.ensures.1 _) _ _ k.before.first.given.1 (at_slot _ _ _ (here k) h.header.ensures) _ _ d.destroy-header.ensures
     _ p.before.before.before.enum_told.given.1 _ _ _ p.each-page.ensures.1 _ c.enum-told2.given.1
 
 pub destroy-spec : {M : Type 1} → statement M

@@ -5,13 +5,13 @@ use mathlib.Core.List.{[]}
 use Prim.Native.Nat.{◌^◌, ◌<◌}
 use native.Mathlib.Omega.{arith}
 use Rattle.paper.specs.Tables.{header_at}
-use Rattle.paper.specs.Bytes.{hsFrom}
+use Rattle.paper.specs.Bytes.{hs_from}
 use Rattle.rows.proofs.Told.{tells}
-use Rattle.requests.proofs.Conditions.{replace-refuses, at_slot}
-use Rattle.requests.proofs.Endings.{deeds-told}
-use Rattle.requests.proofs.Fits.{read_fits, expiring-fits}
+use Rattle.requests.proofs.Conditions.{replace_refuses, at_slot}
+use Rattle.requests.proofs.Endings.{deeds_told}
+use Rattle.requests.proofs.Fits.{read_fits, expiring_fits}
 use Rattle.requests.proofs.Named.{read_named}
-use Rattle.requests.proofs.Owned.{lengthen-stops, lengthen-ends}
+use Rattle.requests.proofs.Owned.{lengthen_stops, lengthen_ends}
 use borrow.Author.Rules.{rules}
 use Rattle.requests.proofs.lengthen.Statement.{statement}
 use Rattle.requests.proofs.lengthen.Tie as tie
@@ -34,11 +34,11 @@ header c = c.before.before.before
 abbrev start : tie.After-header → tie.Start
 start c = c.before.before.before.before.before
 
-read : (c : tie.After-header) → c.header.result ≡ header_at (hsFrom (start c).args.headers.now) (start c).args.n
+read : (c : tie.After-header) → c.header.result ≡ header_at (hs_from (start c).args.headers.now) (start c).args.n
 read c = at_slot _ _ _ (start c).requires.slot c.header.ensures
 
 ended-requires : tie.Need-ended-requires
-ended-requires c κs = deeds-told _ _ _ _ _ _ _ _ (c.before.before.before.each-page.ensures.1 false (hsFrom []))
+ended-requires c κs = deeds_told _ _ _ _ _ _ _ _ (c.before.before.before.each-page.ensures.1 false (hs_from []))
 
 same_length : tie.Need-same-length
 same_length c = search rules
@@ -49,7 +49,7 @@ same-length-2 c = search rules
 returns : tie.Need-returns
 returns c =
     let p = c.before.before.before.before in
-    lengthen-stops _ _ _ _ _ _ _ _ _ _ _ (read (header p)) p.each-page.ensures.1 c.ended.result c.before.match.keys2 c.ended.ensures
+    lengthen_stops _ _ _ _ _ _ _ _ _ _ _ (read (header p)) p.each-page.ensures.1 c.ended.result c.before.match.keys2 c.ended.ensures
 
 with-expiry-requires : tie.Need-with-expiry-requires
 with-expiry-requires c κs = search rules
@@ -67,11 +67,11 @@ replace-header-requires : tie.Need-replace-header-requires
 replace-header-requires c κs =
     let h = header c.before.before.before.before.before.before.before in
     let s = start h in
-    let fits = expiring-fits _ (time-fits s) _ h.header.result _ c.before.before.with-expiry.ensures (expires-fits s) (read_fits _ _ h.header.ensures) in
+    let fits = expiring_fits _ (time-fits s) _ h.header.result _ c.before.before.with-expiry.ensures (expires-fits s) (read_fits _ _ h.header.ensures) in
     (s.pre.whole, s.pre.slot.0, s.pre.slot.1, fits)
 
 ended-requires-2 : tie.Need-ended-requires-2
-ended-requires-2 c κs = tells _ _ _ _ _ (replace-refuses _ _ _) c.before.before.replace-header.ensures
+ended-requires-2 c κs = tells _ _ _ _ _ (replace_refuses _ _ _) c.before.before.replace-header.ensures
 
 same-length-3 : tie.Need-same-length-3
 same-length-3 c = search rules
@@ -82,7 +82,7 @@ same-length-4 c = search rules
 returns-2 : tie.Need-returns-2
 returns-2 c =
     let p = c.before.before.before.before.before.before.before.before.before.before.before in
-    lengthen-ends _ _ _ _ _ _ _ _ _ _ _ (read (header p)) p.each-page.ensures.1 _ _ _ _ c.ended2.result
+    lengthen_ends _ _ _ _ _ _ _ _ _ _ _ (read (header p)) p.each-page.ensures.1 _ _ _ _ c.ended2.result
     c.before.before.before.before.before.before.before.enum_told.given.1 c.before.before.before.before.before.before.with-expiry.ensures c.before.before.before.replace-header.ensures c.ended2.ensures
 
 pub lengthen-spec : {M : Type 1} → statement M

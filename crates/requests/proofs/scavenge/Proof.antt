@@ -1,7 +1,7 @@
 -- `scavenge` is its two sweeps, one after the other.
 use Rattle.rows.proofs.Told.{tells}
-use Rattle.requests.proofs.Conditions.{sweep-refuses, sweep-pages-refuses}
-use Rattle.requests.proofs.Replies.{scavenge-stops, scavenge-stops-later, scavenge-counts}
+use Rattle.requests.proofs.Conditions.{sweep_refuses, sweep_pages_refuses}
+use Rattle.requests.proofs.Replies.{scavenge_stops, scavenge_stops_later, scavenge_counts}
 use borrow.Author.Rules.{rules}
 use Rattle.requests.proofs.scavenge.Statement.{statement}
 use Rattle.requests.proofs.scavenge.Tie as tie
@@ -23,7 +23,7 @@ abbrev clock : tie.After-scavenge-headers → tie.After-set-clock
 clock c = c.before.before.before.before.before
 
 ended-requires : tie.Need-ended-requires
-ended-requires c κs = tells _ _ _ _ _ (sweep-refuses _ _) c.before.before.before.scavenge-headers.ensures
+ended-requires c κs = tells _ _ _ _ _ (sweep_refuses _ _) c.before.before.before.scavenge-headers.ensures
 
 same_length : tie.Need-same-length
 same_length c = search rules
@@ -31,7 +31,7 @@ same_length c = search rules
 returns : tie.Need-returns
 returns c =
     let h = c.before.before.before.before in
-    scavenge-stops _ _ _ _ _ _ _ _ (clock h).set-clock.ensures h.scavenge-headers.ensures c.ended.result c.before.match.keys2 c.ended.ensures
+    scavenge_stops _ _ _ _ _ _ _ _ (clock h).set-clock.ensures h.scavenge-headers.ensures c.ended.result c.before.match.keys2 c.ended.ensures
 
 shared-slice-read-scavenge-pages : tie.Need-shared-slice-read-scavenge-pages
 shared-slice-read-scavenge-pages c = search rules
@@ -43,7 +43,7 @@ enum-known-second : tie.Need-enum-known-second
 enum-known-second c = search rules
 
 ended-requires-2 : tie.Need-ended-requires-2
-ended-requires-2 c κs = tells _ _ _ _ _ (sweep-pages-refuses _ _ _) c.before.before.before.scavenge-pages.ensures
+ended-requires-2 c κs = tells _ _ _ _ _ (sweep_pages_refuses _ _ _) c.before.before.before.scavenge-pages.ensures
 
 same-length-2 : tie.Need-same-length-2
 same-length-2 c = search rules
@@ -56,7 +56,7 @@ returns-2 c =
     let p = c.before.before.before.before in
     let k = p.before.before.before in
     let h = k.before.before.before.before.before in
-    scavenge-stops-later _ _ _ _ _ _ _ _ (clock h).set-clock.ensures h.scavenge-headers.ensures _ k.before.first.given.1 _ _ p.scavenge-pages.ensures
+    scavenge_stops_later _ _ _ _ _ _ _ _ (clock h).set-clock.ensures h.scavenge-headers.ensures _ k.before.first.given.1 _ _ p.scavenge-pages.ensures
     c.ended2.result c.before.match2.keys2 c.ended2.ensures
 
 same-length-4 : tie.Need-same-length-4
@@ -70,7 +70,7 @@ returns-3 c =
     let p = c.before.before.before.before.before in
     let k = p.before.before.before in
     let h = k.before.before.before.before.before in
-    scavenge-counts _ _ _ _ _ _ _ _ (clock h).set-clock.ensures h.scavenge-headers.ensures _ k.before.first.given.1 _ _ p.scavenge-pages.ensures
+    scavenge_counts _ _ _ _ _ _ _ _ (clock h).set-clock.ensures h.scavenge-headers.ensures _ k.before.first.given.1 _ _ p.scavenge-pages.ensures
     _ c.before.second.given.1
 
 pub scavenge-spec : {M : Type 1} → statement M

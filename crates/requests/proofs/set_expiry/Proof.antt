@@ -2,12 +2,12 @@
 use mathlib.Core.List.{[]}
 use Prim.Native.Nat.{◌≤◌}
 use native.Mathlib.Omega.{arith}
-use Rattle.paper.specs.Tables.{headerSlots}
+use Rattle.paper.specs.Tables.{header_slots}
 use Rattle.requests.specs.Seen.{Opened}
 use Rattle.requests.proofs.Conditions.{at_slot}
-use Rattle.requests.proofs.Endings.{opened-told, opened-slot}
+use Rattle.requests.proofs.Endings.{opened_told, opened_slot}
 use Rattle.requests.proofs.Named.{opens}
-use Rattle.requests.proofs.Owned.{set-expiry-stops, set-expiry-longer, set-expiry-shorter}
+use Rattle.requests.proofs.Owned.{set_expiry_stops, set_expiry_longer, set_expiry_shorter}
 use borrow.Author.Rules.{rules}
 use Rattle.requests.proofs.set_expiry.Statement.{statement}
 use Rattle.requests.proofs.set_expiry.Tie as tie
@@ -19,7 +19,7 @@ enum-known-first : tie.Need-enum-known-first
 enum-known-first c = search rules
 
 ended-requires : tie.Need-ended-requires
-ended-requires c κs = opened-told _ _ _ _ _ [] _ (c.before.before.before.«open».ensures.1 [])
+ended-requires c κs = opened_told _ _ _ _ _ [] _ (c.before.before.before.«open».ensures.1 [])
 
 same_length : tie.Need-same-length
 same_length c = search rules
@@ -27,7 +27,7 @@ same_length c = search rules
 returns : tie.Need-returns
 returns c =
     let o = c.before.before.before.before.«open» in
-    set-expiry-stops _ _ _ _ _ _ _ _ _ _ o.ensures.0 (o.ensures.1 _) c.ended.result c.before.match.keys2 c.ended.ensures
+    set_expiry_stops _ _ _ _ _ _ _ _ _ _ o.ensures.0 (o.ensures.1 _) c.ended.result c.before.match.keys2 c.ended.ensures
 
 cast-slot : tie.Need-overflow-cast-slot
 cast-slot c = search rules
@@ -36,8 +36,8 @@ later-requires : tie.Need-later-requires
 later-requires c κs = search rules
 
 -- the header was opened in slot n
-here : (c : tie.After-known-told) → (1 ≤ c.before.first.given.0.0) × (c.before.first.given.0.0 ≤ headerSlots)
-here c = opened-slot _ _ _ _ _ [] _ (c.before.before.before.before.before.«open».ensures.1 []) _ c.before.first.given.1
+here : (c : tie.After-known-told) → (1 ≤ c.before.first.given.0.0) × (c.before.first.given.0.0 ≤ header_slots)
+here c = opened_slot _ _ _ _ _ [] _ (c.before.before.before.before.before.«open».ensures.1 []) _ c.before.first.given.1
 
 header-requires : tie.Need-header-requires
 header-requires c κs = let i = here c.before.before in omega arith
@@ -65,7 +65,7 @@ returns-2 c =
     let h = c.before.before.before.before.before.before.before.before.before in
     let k = h.before.before.before in
     let o = k.before.before.before.before.before.«open» in
-    set-expiry-longer _ _ _ _ _ _ _ _ _ _ o.ensures.0 (o.ensures.1 _) _ _ _ _ k.before.first.given.1 (at_slot _ _ _ (here k) h.header.ensures) h.before.before.later.ensures
+    set_expiry_longer _ _ _ _ _ _ _ _ _ _ o.ensures.0 (o.ensures.1 _) _ _ _ _ k.before.first.given.1 (at_slot _ _ _ (here k) h.header.ensures) h.before.before.later.ensures
     c.before.before.before.before.before.before.before.if1.true c.before.before.before.before.lengthen.ensures
 
 shorten-requires : tie.Need-shorten-requires
@@ -82,7 +82,7 @@ returns-3 c =
     let h = c.before.before.before.before.before.before.before.before.before in
     let k = h.before.before.before in
     let o = k.before.before.before.before.before.«open» in
-    set-expiry-shorter _ _ _ _ _ _ _ _ _ _ o.ensures.0 (o.ensures.1 _) _ _ _ _ k.before.first.given.1 (at_slot _ _ _ (here k) h.header.ensures) h.before.before.later.ensures
+    set_expiry_shorter _ _ _ _ _ _ _ _ _ _ o.ensures.0 (o.ensures.1 _) _ _ _ _ k.before.first.given.1 (at_slot _ _ _ (here k) h.header.ensures) h.before.before.later.ensures
     c.before.before.before.before.before.before.before.if1.false c.before.before.before.before.shorten.ensures
 
 pub set-expiry-spec : {M : Type 1} → statement M

@@ -5,13 +5,13 @@ use mathlib.Core.List.{[]}
 use Prim.Native.Nat.{◌^◌, ◌<◌}
 use native.Mathlib.Omega.{arith}
 use Rattle.paper.specs.Tables.{header_at}
-use Rattle.paper.specs.Bytes.{hsFrom}
+use Rattle.paper.specs.Bytes.{hs_from}
 use Rattle.rows.proofs.Told.{tells}
-use Rattle.requests.proofs.Conditions.{replace-refuses, at_slot}
-use Rattle.requests.proofs.Endings.{deeds-told}
-use Rattle.requests.proofs.Fits.{read_fits, expiring-fits}
+use Rattle.requests.proofs.Conditions.{replace_refuses, at_slot}
+use Rattle.requests.proofs.Endings.{deeds_told}
+use Rattle.requests.proofs.Fits.{read_fits, expiring_fits}
 use Rattle.requests.proofs.Named.{read_named}
-use Rattle.requests.proofs.Owned.{shorten-stops, shorten-stops-later, shorten-ends}
+use Rattle.requests.proofs.Owned.{shorten_stops, shorten_stops_later, shorten_ends}
 use borrow.Author.Rules.{rules}
 use Rattle.requests.proofs.shorten.Statement.{statement}
 use Rattle.requests.proofs.shorten.Tie as tie
@@ -35,7 +35,7 @@ replace-header-requires : tie.Need-replace-header-requires
 replace-header-requires c κs =
     let h = c.before.before.before in
     let s = h.before.before.before.before.before in
-    let fits = expiring-fits _ (time-fits s) _ h.header.result _ c.before.before.with-expiry.ensures (expires-fits s) (read_fits _ _ h.header.ensures) in
+    let fits = expiring_fits _ (time-fits s) _ h.header.result _ c.before.before.with-expiry.ensures (expires-fits s) (read_fits _ _ h.header.ensures) in
     (s.requires.whole, s.requires.slot.0, s.requires.slot.1, fits)
 
 enum-known-second : tie.Need-enum-known-second
@@ -48,11 +48,11 @@ header c = c.before.before.before.before
 abbrev start : tie.After-header → tie.Start
 start c = c.before.before.before.before.before
 
-read : (c : tie.After-header) → c.header.result ≡ header_at (hsFrom (start c).args.headers.now) (start c).args.n
+read : (c : tie.After-header) → c.header.result ≡ header_at (hs_from (start c).args.headers.now) (start c).args.n
 read c = at_slot _ _ _ (start c).requires.slot c.header.ensures
 
 ended-requires : tie.Need-ended-requires
-ended-requires c κs = tells _ _ _ _ _ (replace-refuses _ _ _) c.before.before.before.replace-header.ensures
+ended-requires c κs = tells _ _ _ _ _ (replace_refuses _ _ _) c.before.before.before.replace-header.ensures
 
 same_length : tie.Need-same-length
 same_length c = search rules
@@ -60,7 +60,7 @@ same_length c = search rules
 returns : tie.Need-returns
 returns c =
     let r = c.before.before.before.before in
-    shorten-stops _ _ _ _ _ _ _ _ _ _ _ (read (header r)) r.before.before.before.with-expiry.ensures r.replace-header.ensures c.ended.result c.before.match.keys2 c.ended.ensures
+    shorten_stops _ _ _ _ _ _ _ _ _ _ _ (read (header r)) r.before.before.before.with-expiry.ensures r.replace-header.ensures c.ended.result c.before.match.keys2 c.ended.ensures
 
 each-page-requires : tie.Need-each-page-requires
 each-page-requires c κs =
@@ -72,7 +72,7 @@ enum_told : tie.Need-enum-told
 enum_told c = search rules
 
 ended-requires-2 : tie.Need-ended-requires-2
-ended-requires-2 c κs = deeds-told _ _ _ _ _ _ _ _ (c.before.before.before.each-page.ensures.1 false (hsFrom []))
+ended-requires-2 c κs = deeds_told _ _ _ _ _ _ _ _ (c.before.before.before.each-page.ensures.1 false (hs_from []))
 
 same-length-2 : tie.Need-same-length-2
 same-length-2 c = search rules
@@ -84,7 +84,7 @@ returns-2 : tie.Need-returns-2
 returns-2 c =
     let p = c.before.before.before.before in
     let r = p.before.before.before.before.before.before.before.before in
-    shorten-stops-later _ _ _ _ _ _ _ _ _ _ _ (read (header r)) r.before.before.before.with-expiry.ensures r.replace-header.ensures _ p.before.before.before.before.second.given.1 _ _ _ p.each-page.ensures.1
+    shorten_stops_later _ _ _ _ _ _ _ _ _ _ _ (read (header r)) r.before.before.before.with-expiry.ensures r.replace-header.ensures _ p.before.before.before.before.second.given.1 _ _ _ p.each-page.ensures.1
     c.ended2.result c.before.match2.keys2 c.ended2.ensures
 
 same-length-4 : tie.Need-same-length-4
@@ -97,7 +97,7 @@ returns-3 : tie.Need-returns-3
 returns-3 c =
     let p = c.before.before.before.before in
     let r = p.before.before.before.before.before.before.before.before in
-    shorten-ends _ _ _ _ _ _ _ _ _ _ _ (read (header r)) r.before.before.before.with-expiry.ensures r.replace-header.ensures _ p.before.before.before.before.second.given.1 _ _ _ p.each-page.ensures.1
+    shorten_ends _ _ _ _ _ _ _ _ _ _ _ (read (header r)) r.before.before.before.with-expiry.ensures r.replace-header.ensures _ p.before.before.before.before.second.given.1 _ _ _ p.each-page.ensures.1
     _ c.enum_told.given.1
 
 pub shorten-spec : {M : Type 1} → statement M

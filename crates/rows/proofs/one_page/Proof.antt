@@ -1,17 +1,17 @@
 -- `one_page` is a row over one page: a step where there is a page, none otherwise.
 use native.Mathlib.Omega.{arith}
 use Rattle.stores.specs.Geometry.{bank}
-use Rattle.rows.specs.Rows.{deedOn, eachDeed}
-use Rattle.rows.proofs.PageRows.{no-page-rowed, page-rowed}
+use Rattle.rows.specs.Rows.{deed_on, each_deed}
+use Rattle.rows.proofs.PageRows.{no_page_rowed, page_rowed}
 use borrow.Author.Rules.{rules}
 use Rattle.rows.proofs.one_page.Statement.{statement}
 use Rattle.rows.proofs.one_page.Tie as tie
 
 returns : tie.Need-returns
-unfolding eachDeed
+unfolding each_deed
 returns c =
     let a = c.before.before.before.before.args in
-    no-page-rowed a.pass (deedOn (bank a.slots a.size) a.deed) _ _ _ _ c.if1.true
+    no_page_rowed a.pass (deed_on (bank a.slots a.size) a.deed) _ _ _ _ c.if1.true
 
 shared-slice-read-deed-step : tie.Need-shared-slice-read-deed-step
 shared-slice-read-deed-step c = search rules
@@ -29,11 +29,11 @@ same_length : tie.Need-same-length
 same_length c = search rules
 
 returns-2 : tie.Need-returns-2
-unfolding eachDeed
+unfolding each_deed
 returns-2 c =
     let k = c.before.before.before in
     let a = k.before.before.before.before.before.before.before.args in
-    page-rowed a.pass (deedOn (bank a.slots a.size) a.deed) _ _ _ _ _ _ _ (omega arith) k.deed-step.ensures c.passed_over.ensures
+    page_rowed a.pass (deed_on (bank a.slots a.size) a.deed) _ _ _ _ _ _ _ (omega arith) k.deed-step.ensures c.passed_over.ensures
 
 pub one-page-spec : {M : Type 1} → statement M
 one-page-spec =

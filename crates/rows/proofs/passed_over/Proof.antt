@@ -5,7 +5,7 @@ use mathlib.Core.Bool.{Bool, true, false, cond}
 use mathlib.Core.List.{List}
 use Rattle.paper.specs.declared.Step.{Step}
 use Rattle.paper.specs.declared.Step.TheVariants.{Gone, Refused, Cut}
-use Rattle.paper.specs.Steps.{State, follow, give, settle, passOver}
+use Rattle.paper.specs.Steps.{State, follow, give, settle, pass_over}
 use borrow.Author.Rules.{rules}
 use Rattle.rows.proofs.passed_over.Statement.{statement}
 use Rattle.rows.proofs.passed_over.Tie as tie
@@ -25,8 +25,8 @@ passing true (Refused a) = Gone 0
 passing false (Refused a) = Refused a
 passing pass Cut = Cut
 
-passes : (pass : Bool) (s : Step) (os : List ℕ) (st : State) → settle (passing pass s) st ≡ follow (cond pass (passOver s st) (settle s st)) os (λ n. give 0)
-unfolding settle passOver follow give
+passes : (pass : Bool) (s : Step) (os : List ℕ) (st : State) → settle (passing pass s) st ≡ follow (cond pass (pass_over s st) (settle s st)) os (λ n. give 0)
+unfolding settle pass_over follow give
 passes true (Gone n) os st = refl
 passes false (Gone n) os st = refl
 passes true (Refused a) os st = refl

@@ -1,7 +1,7 @@
 -- `set_clock` writes back the control record that it read, with another clock.
 use Prim.Native.Nat.{◌^◌, ◌<◌}
 use borrow.Author.Rules.{rules}
-use Rattle.rows.proofs.Clock.{clock-put}
+use Rattle.rows.proofs.Clock.{clock_put}
 use Rattle.rows.proofs.set_clock.Statement.{statement}
 use Rattle.rows.proofs.set_clock.Tie as tie
 
@@ -19,7 +19,7 @@ time-fits s = search rules
 
 returns : tie.Need-returns
 returns c =
-    clock-put _ _ _ _ (time-fits c.before.before.before.before.before.before.before)
+    clock_put _ _ _ _ (time-fits c.before.before.before.before.before.before.before)
     c.before.before.before.before.control.ensures c.before.before.put-control.ensures
 
 pub set-clock-spec : {M : Type 1} → statement M

@@ -1,14 +1,14 @@
 -- `format` refuses a wrong length and otherwise leaves fresh tables.
 use borrow.Author.Rules.{rules}
-use Rattle.service.proofs.Exact.{headers-unfit, pages-unfit, formatted}
+use Rattle.service.proofs.Exact.{headers_unfit, pages_unfit, formatted}
 use Rattle.service.proofs.format.Statement.{statement}
 use Rattle.service.proofs.format.Tie as tie
 
 returns : tie.Need-returns
-returns c = headers-unfit _ _ _ c.if1.true
+returns c = headers_unfit _ _ _ c.if1.true
 
 returns-2 : tie.Need-returns-2
-returns-2 c = pages-unfit _ _ _ c.before.if1.false c.if2.true
+returns-2 c = pages_unfit _ _ _ c.before.if1.false c.if2.true
 
 format-requires : tie.Need-format-requires
 format-requires c κs = search rules

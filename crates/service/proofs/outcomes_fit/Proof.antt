@@ -8,7 +8,7 @@ use lib.ListN.{length, drop, get_or}
 use borrow.Author.Rules.{rules}
 use borrow.Author.Tests.{ne_eqb, eq-eqb, leb-true, leb-false, le-ltb, lt-ltb}
 use Rattle.paper.specs.Lists.{all}
-use Rattle.sound.proofs.Walks.{not-or, all-turn, all_end}
+use Rattle.sound.proofs.Walks.{not_or, all_turn, all_end}
 use Rattle.service.proofs.outcomes_fit.Statement.{statement}
 use Rattle.service.proofs.outcomes_fit.Tie as tie
 
@@ -48,7 +48,7 @@ loop-again c =
     let l = c.before.before.loop in
     let os = c.before.before.before.before.args.outcomes.now in
     let h : l.k < length os = omega (arith, c.before.before.before.if1.false) in
-    (omega arith, ap (λ (b : Bool). b && all known (drop (l.k + 1) os)) (not-or l.above (ltb 2 (get_or os l.k 0)) ∙ ap (λ (t : Bool). not l.above && t) (above-2 (get_or os l.k 0))) ∙ all-turn known 0 os (not l.above) l.k h ∙ l.invariant.1)
+    (omega arith, ap (λ (b : Bool). b && all known (drop (l.k + 1) os)) (not_or l.above (ltb 2 (get_or os l.k 0)) ∙ ap (λ (t : Bool). not l.above && t) (above-2 (get_or os l.k 0))) ∙ all_turn known 0 os (not l.above) l.k h ∙ l.invariant.1)
 
 returns-2 : tie.Need-returns-2 invariant-loop decreases-loop
 returns-2 c =

@@ -2,7 +2,7 @@
 use mathlib.Core.Path.{sym, ◌∙◌}
 use borrow.Author.Rules.{rules}
 use borrow.Author.Tests.{not-true, not-false}
-use Rattle.service.proofs.Admission.{malformed, listless, by-tables}
+use Rattle.service.proofs.Admission.{malformed, listless, by_tables}
 use Rattle.service.proofs.refusal.Statement.{statement}
 use Rattle.service.proofs.refusal.Tie as tie
 
@@ -21,7 +21,7 @@ tables-refusal-requires c κs = search rules
 returns-3 : tie.Need-returns-3
 returns-3 c =
     c.tables-refusal.ensures
-    ∙ by-tables _ _ _ _ _ _ (not-false _ c.before.before.before.if1.false) (sym c.before.before.outcomes-fit.ensures ∙ not-false _ c.before.if2.false)
+    ∙ by_tables _ _ _ _ _ _ (not-false _ c.before.before.before.if1.false) (sym c.before.before.outcomes-fit.ensures ∙ not-false _ c.before.if2.false)
 
 pub refusal-spec : {M : Type 1} → statement M
 refusal-spec =

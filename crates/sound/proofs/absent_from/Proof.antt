@@ -6,7 +6,7 @@ use native.Mathlib.Omega.{arith}
 use lib.Dec.{eqb}
 use lib.ListN.{length, drop, get_or}
 use Rattle.paper.specs.Lists.{all, absent}
-use Rattle.sound.proofs.Walks.{not-or, all-turn, all_end, other, absent-all}
+use Rattle.sound.proofs.Walks.{not_or, all_turn, all_end, other, absent_all}
 use borrow.Author.Rules.{rules}
 use Rattle.sound.proofs.absent_from.Statement.{statement}
 use Rattle.sound.proofs.absent_from.Tie as tie
@@ -18,7 +18,7 @@ abbrev decreases-loop : tie.decreases-loop
 decreases-loop ids from x met₀ j₀ met j = length ids - j
 
 loop-holds : tie.Need-loop-init invariant-loop decreases-loop
-loop-holds c = sym (absent-all c.args.x (drop c.args.from c.args.ids.now))
+loop-holds c = sym (absent_all c.args.x (drop c.args.from c.args.ids.now))
 
 mul-met : tie.Need-overflow-mul-met invariant-loop decreases-loop
 mul-met c = search rules
@@ -38,8 +38,8 @@ loop-again c =
     let a = c.before.before.before.args in
     let ids = a.ids.now in
     let h : l.j < length ids = omega arith in
-    ap (λ (b : Bool). b && all (other a.x) (drop (l.j + 1) ids)) (not-or l.met (eqb a.x (get_or ids l.j 0)))
-    ∙ all-turn (other a.x) 0 ids (not l.met) l.j h ∙ l.invariant
+    ap (λ (b : Bool). b && all (other a.x) (drop (l.j + 1) ids)) (not_or l.met (eqb a.x (get_or ids l.j 0)))
+    ∙ all_turn (other a.x) 0 ids (not l.met) l.j h ∙ l.invariant
 
 returns : tie.Need-returns invariant-loop decreases-loop
 returns c =

@@ -5,7 +5,7 @@ use native.Mathlib.Omega.{arith}
 use borrow.Author.Tests.{not-true, not-false}
 use lib.ListN.{length, drop}
 use Rattle.paper.specs.Lists.{distinct}
-use Rattle.sound.proofs.Walks.{distinct-turn, distinct-end}
+use Rattle.sound.proofs.Walks.{distinct_turn, distinct_end}
 use borrow.Author.Rules.{rules}
 use Rattle.sound.proofs.all_distinct.Statement.{statement}
 use Rattle.sound.proofs.all_distinct.Tie as tie
@@ -36,7 +36,7 @@ returns c =
     let l = c.before.before.before.before.loop in
     let ids = c.before.before.before.before.before.before.args.ids.now in
     let e = sym c.before.absent-from.ensures ∙ not-true _ c.if1.true in
-    sym (sym l.invariant ∙ distinct-turn ids l.i (omega arith) _ e)
+    sym (sym l.invariant ∙ distinct_turn ids l.i (omega arith) _ e)
 
 add-i : tie.Need-overflow-add-i invariant-loop decreases-loop
 add-i c = search rules
@@ -49,13 +49,13 @@ loop-again c =
     let l = c.before.before.before.before.loop in
     let ids = c.before.before.before.before.before.before.args.ids.now in
     let e = sym c.before.absent-from.ensures ∙ not-false _ c.if1.false in
-    sym (sym l.invariant ∙ distinct-turn ids l.i (omega arith) _ e)
+    sym (sym l.invariant ∙ distinct_turn ids l.i (omega arith) _ e)
 
 returns-2 : tie.Need-returns-2 invariant-loop decreases-loop
 returns-2 c =
     let l = c.before.loop in
     let ids = c.before.before.before.args.ids.now in
-    sym (distinct-end ids l.i (omega arith)) ∙ l.invariant
+    sym (distinct_end ids l.i (omega arith)) ∙ l.invariant
 
 pub all-distinct-spec : {M : Type 1} → statement M
 all-distinct-spec =

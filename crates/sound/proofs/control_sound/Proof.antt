@@ -1,6 +1,6 @@
 -- `control_sound` tests the next id, and the bytes of the spare bits.
 use mathlib.Core.Path.{◌∙◌}
-use Rattle.sound.proofs.Records.{next-none, next-large, next_fits}
+use Rattle.sound.proofs.Records.{next_none, next_large, next_fits}
 use borrow.Author.Rules.{rules}
 use Rattle.sound.proofs.control_sound.Statement.{statement}
 use Rattle.sound.proofs.control_sound.Tie as tie
@@ -9,10 +9,10 @@ control-requires : tie.Need-control-requires
 control-requires c κs = search rules
 
 returns : tie.Need-returns
-returns c = next-none _ _ c.before.before.control.ensures c.if1.true
+returns c = next_none _ _ c.before.before.control.ensures c.if1.true
 
 returns-2 : tie.Need-returns-2
-returns-2 c = next-large _ _ c.before.before.before.before.control.ensures c.if2.true
+returns-2 c = next_large _ _ c.before.before.before.before.control.ensures c.if2.true
 
 sub-zeros : tie.Need-overflow-sub-zeros
 sub-zeros c = search rules

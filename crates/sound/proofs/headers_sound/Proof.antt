@@ -8,31 +8,31 @@ use native.Mathlib.Omega.{arith}
 use lib.ListN.{length, length-set}
 use lib.Seq.{length-take-le}
 use Rattle.paper.specs.Lists.{distinct}
-use Rattle.paper.specs.Tables.{headerSlots}
-use Rattle.paper.specs.Bytes.{hsFrom, psFrom}
+use Rattle.paper.specs.Tables.{header_slots}
+use Rattle.paper.specs.Bytes.{hs_from, ps_from}
 use Rattle.stores.specs.Geometry.{bank}
 use Rattle.stores.proofs.HeaderSlots.{slots as all_slots}
-use Rattle.sound.specs.Seen.{idsInUse}
-use Rattle.sound.proofs.Headers.{Gathered, gather-starts, gather-broken, gather-empty, gather-named, gather-ends}
+use Rattle.sound.specs.Seen.{ids_in_use}
+use Rattle.sound.proofs.Headers.{Gathered, gather_starts, gather_broken, gather_empty, gather_named, gather_ends}
 use borrow.Author.Rules.{rules}
 use Rattle.sound.proofs.headers_sound.Statement.{statement}
 use Rattle.sound.proofs.headers_sound.Tie as tie
 
 abbrev invariant-loop : tie.invariant-loop
-invariant-loop headers c pages slots size seen₀ ids₀ count₀ n₀ seen ids count n = (1 ≤ n) × (n ≤ headerSlots + 1) × (length seen ≡ length seen₀) × (length ids ≡ headerSlots)
-    × Gathered (bank slots size) c (psFrom (bank slots size) pages) seen₀ (hsFrom headers).headers n seen ids count
+invariant-loop headers c pages slots size seen₀ ids₀ count₀ n₀ seen ids count n = (1 ≤ n) × (n ≤ header_slots + 1) × (length seen ≡ length seen₀) × (length ids ≡ header_slots)
+    × Gathered (bank slots size) c (ps_from (bank slots size) pages) seen₀ (hs_from headers).headers n seen ids count
 
 abbrev decreases-loop : tie.decreases-loop
-decreases-loop headers c pages slots size seen₀ ids₀ count₀ n₀ seen ids count n = headerSlots + 1 - n
+decreases-loop headers c pages slots size seen₀ ids₀ count₀ n₀ seen ids count n = header_slots + 1 - n
 
 abbrev start : tie.In-loop invariant-loop decreases-loop → tie.Start invariant-loop decreases-loop
 start t = t.before.before.before.before.before
 
-in_table : (t : tie.In-loop invariant-loop decreases-loop) → t.before.loop.n ≤ length (hsFrom (start t).args.headers.now).headers
+in_table : (t : tie.In-loop invariant-loop decreases-loop) → t.before.loop.n ≤ length (hs_from (start t).args.headers.now).headers
 in_table t = omega (arith, all_slots (start t).args.headers.now)
 
 loop-holds : tie.Need-loop-init invariant-loop decreases-loop
-loop-holds c = (omega arith, omega arith, refl, refl, gather-starts _ _ _ _ _ _)
+loop-holds c = (omega arith, omega arith, refl, refl, gather_starts _ _ _ _ _ _)
 
 header-sound-requires : tie.Need-header-sound-requires invariant-loop decreases-loop
 header-sound-requires c κs = search rules
@@ -48,8 +48,8 @@ returns c =
     let k = c.before.before.before.before in
     let t = k.before.before in
     let l = t.before.loop in
-    let hs = (hsFrom (start t).args.headers.now).headers in
-    sym (ap (λ (p : Bool). p && distinct (idsInUse hs)) (gather-broken l.invariant.4 l.invariant.0 (in_table t) (sym k.header-sound.ensures.0 ∙ c.enum_told.given.1)))
+    let hs = (hs_from (start t).args.headers.now).headers in
+    sym (ap (λ (p : Bool). p && distinct (ids_in_use hs)) (gather_broken l.invariant.4 l.invariant.0 (in_table t) (sym k.header-sound.ensures.0 ∙ c.enum_told.given.1)))
 
 enum-told-2 : tie.Need-enum-told-2 invariant-loop decreases-loop
 enum-told-2 c = search rules
@@ -85,14 +85,14 @@ loop-again c =
       omega arith,
       long,
       ap length w.2 ∙ l.invariant.3,
-      rw (w.2, w.3) (gather-empty l.invariant.4 l.invariant.0 (in_table t) _ (told ∙ w.1.given.1) k.header-sound.ensures.1),
+      rw (w.2, w.3) (gather_empty l.invariant.4 l.invariant.0 (in_table t) _ (told ∙ w.1.given.1) k.header-sound.ensures.1),
     ))
     (λ w. (
       omega arith,
       omega arith,
       long,
       ap length w.3 ∙ simp length-set l.invariant.3,
-      rw (w.3, w.4) (gather-named l.invariant.4 l.invariant.0 (in_table t) _ _ (told ∙ w.1.given.1) k.header-sound.ensures.1 (omega (arith, l.invariant.4.few))),
+      rw (w.3, w.4) (gather_named l.invariant.4 l.invariant.0 (in_table t) _ _ (told ∙ w.1.given.1) k.header-sound.ensures.1 (omega (arith, l.invariant.4.few))),
     ))
     c.match.branch
 
@@ -114,7 +114,7 @@ returns-2 : tie.Need-returns-2 invariant-loop decreases-loop
 returns-2 c =
     let l = c.before.before.before.loop in
     let s = c.before.before.before.before.before.before.before in
-    let e = gather-ends l.invariant.4 (omega (arith, all_slots s.args.headers.now)) in
+    let e = gather_ends l.invariant.4 (omega (arith, all_slots s.args.headers.now)) in
     c.all-distinct.ensures ∙ ap₂ (λ (p : Bool) (ids : List ℕ). p && distinct ids) (sym e.0) e.1
 
 pub headers-sound-spec : {M : Type 1} → statement M

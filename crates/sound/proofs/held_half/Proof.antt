@@ -8,20 +8,20 @@ use borrow.Author.Tests.{leb-true}
 use lib.ListN.{length, take, drop, get_or, length-set, length-drop}
 use lib.Seq.{length-take-le, get_or-take, get_or-drop}
 use Rattle.paper.specs.declared.PageId.{PageId}
-use Rattle.paper.specs.Ids.{pageId}
-use Rattle.paper.specs.Bytes.{psFrom}
+use Rattle.paper.specs.Ids.{page_id}
+use Rattle.paper.specs.Bytes.{ps_from}
 use Rattle.stores.specs.Geometry.{bank}
-use Rattle.sound.specs.Seen.{idWithin, heldTo}
-use Rattle.paper.proofs.Tests.{all-at}
-use Rattle.sound.proofs.Records.{held-null}
-use Rattle.sound.proofs.Seen.{Walked, walk-starts, walk-null, walk-id, walk_ends}
+use Rattle.sound.specs.Seen.{id_within, held_to}
+use Rattle.paper.proofs.Tests.{all_at}
+use Rattle.sound.proofs.Records.{held_null}
+use Rattle.sound.proofs.Seen.{Walked, walk_starts, walk_null, walk_id, walk_ends}
 use borrow.Author.Rules.{rules}
 use Rattle.sound.proofs.held_half.Statement.{statement}
 use Rattle.sound.proofs.held_half.Tie as tie
 
 abbrev invariant-loop : tie.invariant-loop
 invariant-loop pages slots size from expires seen₀ ids good₀ k₀ seen good k = (k ≤ 8) × (length seen ≡ length seen₀)
-    × Walked (heldTo (bank slots size) (psFrom (bank slots size) pages) expires) (take 8 (drop from ids)) seen₀ k seen good
+    × Walked (held_to (bank slots size) (ps_from (bank slots size) pages) expires) (take 8 (drop from ids)) seen₀ k seen good
 
 abbrev decreases-loop : tie.decreases-loop
 decreases-loop pages slots size from expires seen₀ ids good₀ k₀ seen good k = 8 - k
@@ -45,22 +45,22 @@ index t = omega (arith, eight (start t))
 
 -- the id that is read stands in the half
 abbrev here : tie.In-loop invariant-loop decreases-loop → PageId
-here t = get_or (start t).args.t4 ((start t).args.from + t.before.loop.k) (pageId 0)
+here t = get_or (start t).args.t4 ((start t).args.from + t.before.loop.k) (page_id 0)
 
-at : (t : tie.In-loop invariant-loop decreases-loop) → here t ≡ get_or (half (start t)) t.before.loop.k (pageId 0)
+at : (t : tie.In-loop invariant-loop decreases-loop) → here t ≡ get_or (half (start t)) t.before.loop.k (page_id 0)
 at t =
     let a = (start t).args in
     let k = t.before.loop.k in
-    sym (get_or-take 8 (drop a.from a.t4) k (pageId 0) (omega arith) ∙ get_or-drop a.from a.t4 k (pageId 0))
+    sym (get_or-take 8 (drop a.from a.t4) k (page_id 0) (omega arith) ∙ get_or-drop a.from a.t4 k (page_id 0))
 
 -- each names a slot of the table
 in-slots : (t : tie.In-loop invariant-loop decreases-loop) → (here t).0 ≤ (start t).args.slots
 in-slots t =
     let a = (start t).args in
-    leb-true _ _ (all-at (idWithin a.slots) (pageId 0) (a.from + t.before.loop.k) a.t4 (start t).requires.1.0.1 (omega (arith, sixteen (start t))))
+    leb-true _ _ (all_at (id_within a.slots) (page_id 0) (a.from + t.before.loop.k) a.t4 (start t).requires.1.0.1 (omega (arith, sixteen (start t))))
 
 loop-holds : tie.Need-loop-init invariant-loop decreases-loop
-loop-holds c = (omega arith, refl, walk-starts _ _ _)
+loop-holds c = (omega arith, refl, walk_starts _ _ _)
 
 add-p : tie.Need-overflow-add-p invariant-loop decreases-loop
 add-p c = search rules
@@ -104,8 +104,8 @@ loop-again c =
     let l = t.before.loop in
     let i = l.invariant.2 in
     ⊎_elim
-    (λ w. (omega arith, ap length w.3 ∙ simp length-set l.invariant.1, rw (w.3, w.4) (walk-id i (index t) (here t) (at t) (omega arith) _ _ w.1.ensures refl)))
-    (λ w. (omega arith, ap length w.1 ∙ l.invariant.1, rw (w.1, w.2) (walk-null i (index t) (here t) (at t) (omega arith) (held-null _ _ _ _ (omega arith)))))
+    (λ w. (omega arith, ap length w.3 ∙ simp length-set l.invariant.1, rw (w.3, w.4) (walk_id i (index t) (here t) (at t) (omega arith) _ _ w.1.ensures refl)))
+    (λ w. (omega arith, ap length w.1 ∙ l.invariant.1, rw (w.1, w.2) (walk_null i (index t) (here t) (at t) (omega arith) (held_null _ _ _ _ (omega arith)))))
     c.if1.branch
 
 same_length : tie.Need-same-length invariant-loop decreases-loop

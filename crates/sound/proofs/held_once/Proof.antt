@@ -5,10 +5,10 @@ use mathlib.Core.Bool.{Bool, ◌&&◌}
 use mathlib.Core.List.{List}
 use native.Mathlib.Omega.{arith}
 use lib.ListN.{length, take, drop}
-use Rattle.paper.specs.Bytes.{psFrom, ids_of}
+use Rattle.paper.specs.Bytes.{ps_from, ids_of}
 use Rattle.stores.specs.Geometry.{bank}
-use Rattle.sound.specs.Seen.{marked, heldTo, once}
-use Rattle.sound.proofs.Seen.{once-halves, marked-halves}
+use Rattle.sound.specs.Seen.{marked, held_to, once}
+use Rattle.sound.proofs.Seen.{once_halves, marked_halves}
 use borrow.Author.Rules.{rules}
 use Rattle.sound.proofs.held_once.Statement.{statement}
 use Rattle.sound.proofs.held_once.Tie as tie
@@ -34,13 +34,13 @@ returns c =
     let one = two.before.before.before.before in
     let s = one.before.before.before.before in
     let a = s.args in
-    let f = heldTo (bank a.slots a.size) (psFrom (bank a.slots a.size) a.pages.now) a.expires in
+    let f = held_to (bank a.slots a.size) (ps_from (bank a.slots a.size) a.pages.now) a.expires in
     let seen = a.seen.now in
     let few : length a.ids ≤ 16 = omega (arith, sixteen s) in
     let left = one.held-half.ensures.1 in
     let rest = take 8 (drop 8 a.ids) in (
-      ap₂ (λ (p q : Bool). p && q) one.held-half.ensures.0 (two.held-half2.ensures.0 ∙ ap (λ (l : List Bool). once f l rest) left) ∙ once-halves seen a.ids few f,
-      two.held-half2.ensures.1 ∙ ap (λ (l : List Bool). marked l (ids_of rest)) left ∙ marked-halves seen a.ids few,
+      ap₂ (λ (p q : Bool). p && q) one.held-half.ensures.0 (two.held-half2.ensures.0 ∙ ap (λ (l : List Bool). once f l rest) left) ∙ once_halves seen a.ids few f,
+      two.held-half2.ensures.1 ∙ ap (λ (l : List Bool). marked l (ids_of rest)) left ∙ marked_halves seen a.ids few,
     )
 
 pub held-once-spec : {M : Type 1} → statement M

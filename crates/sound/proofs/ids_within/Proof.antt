@@ -4,16 +4,16 @@ use mathlib.Core.Path.{◌≡◌, refl, sym, ◌∙◌}
 use mathlib.Core.Bool.{◌&&◌}
 use native.Mathlib.Omega.{arith}
 use lib.ListN.{length, drop}
-use Rattle.paper.specs.Ids.{pageId}
+use Rattle.paper.specs.Ids.{page_id}
 use Rattle.paper.specs.Lists.{all}
-use Rattle.sound.specs.Seen.{idWithin}
-use Rattle.sound.proofs.Walks.{all-turn, all_end}
+use Rattle.sound.specs.Seen.{id_within}
+use Rattle.sound.proofs.Walks.{all_turn, all_end}
 use borrow.Author.Rules.{rules}
 use Rattle.sound.proofs.ids_within.Statement.{statement}
 use Rattle.sound.proofs.ids_within.Tie as tie
 
 abbrev invariant-loop : tie.invariant-loop
-invariant-loop slots ids within₀ k₀ within k = (k ≤ 16) × (within && all (idWithin slots) (drop k ids) ≡ all (idWithin slots) ids)
+invariant-loop slots ids within₀ k₀ within k = (k ≤ 16) × (within && all (id_within slots) (drop k ids) ≡ all (id_within slots) ids)
 
 abbrev decreases-loop : tie.decreases-loop
 decreases-loop slots ids within₀ k₀ within k = 16 - k
@@ -42,14 +42,14 @@ loop-again c =
     let a = c.before.before.before.before.args in
     let long : length a.t1 ≡ 16 = search rules in
     let h : l.k < length a.t1 = omega arith in
-    (omega arith, all-turn (idWithin a.slots) (pageId 0) a.t1 l.within l.k h ∙ l.invariant.1)
+    (omega arith, all_turn (id_within a.slots) (page_id 0) a.t1 l.within l.k h ∙ l.invariant.1)
 
 returns : tie.Need-returns invariant-loop decreases-loop
 returns c =
     let l = c.before.loop in
     let a = c.before.before.args in
     let long : length a.t1 ≡ 16 = search rules in
-    sym (all_end (idWithin a.slots) (pageId 0) a.t1 l.within l.k (omega arith)) ∙ l.invariant.1
+    sym (all_end (id_within a.slots) (page_id 0) a.t1 l.within l.k (omega arith)) ∙ l.invariant.1
 
 pub ids-within-spec : {M : Type 1} → statement M
 ids-within-spec =

@@ -3,14 +3,14 @@ use Prim.Native.Nat.{◌+◌, ◌-◌, ◌*◌, ◌≤◌}
 use mathlib.Core.Path.{◌∙◌}
 use native.Mathlib.Omega.{arith}
 use lib.ListN.{length}
-use Rattle.stores.proofs.Slots.{slot-room}
-use Rattle.sound.proofs.Records.{slot-in-use, slot-otherwise}
+use Rattle.stores.proofs.Slots.{slot_room}
+use Rattle.sound.proofs.Records.{slot_in_use, slot_otherwise}
 use borrow.Author.Rules.{rules}
 use Rattle.sound.proofs.slot_sound.Statement.{statement}
 use Rattle.sound.proofs.slot_sound.Tie as tie
 
 room : (s : tie.Start) → (s.args.n - 1) * (8 + s.args.size) + (8 + s.args.size) ≤ length s.args.pages.now
-room s = slot-room s.requires.0 s.args.n s.requires.1.0 s.requires.1.1
+room s = slot_room s.requires.0 s.args.n s.requires.1.0 s.requires.1.1
 
 sub-a : tie.Need-overflow-sub-a
 sub-a c = search rules
@@ -43,7 +43,7 @@ returns : tie.Need-returns
 returns c =
     let k = c.before.before.before in
     let s = k.before in
-    slot-in-use s.requires.0 (λ i. (k.shared-slice-known.given i).fits) s.args.n s.requires.1.0 s.requires.1.1 _ c.before.be32.ensures c.if1.true
+    slot_in_use s.requires.0 (λ i. (k.shared-slice-known.given i).fits) s.args.n s.requires.1.0 s.requires.1.1 _ c.before.be32.ensures c.if1.true
 
 zeros-requires : tie.Need-zeros-requires
 zeros-requires c κs = search rules
@@ -53,7 +53,7 @@ returns-2 c =
     let k = c.before.before.before.before in
     let s = k.before in
     c.zeros.ensures
-    ∙ slot-otherwise s.requires.0 (λ i. (k.shared-slice-known.given i).fits) s.args.n s.requires.1.0 s.requires.1.1 _ c.before.before.be32.ensures c.before.if1.false
+    ∙ slot_otherwise s.requires.0 (λ i. (k.shared-slice-known.given i).fits) s.args.n s.requires.1.0 s.requires.1.1 _ c.before.before.be32.ensures c.before.if1.false
 
 pub slot-sound-spec : {M : Type 1} → statement M
 slot-sound-spec =

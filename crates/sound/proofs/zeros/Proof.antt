@@ -5,7 +5,7 @@ use mathlib.Core.Bool.{Bool, ◌&&◌}
 use native.Mathlib.Omega.{arith}
 use lib.ListN.{length, drop, get_or}
 use Rattle.paper.specs.Lists.{all, is_zero}
-use Rattle.sound.proofs.Walks.{or-zero, all-turn, all_end}
+use Rattle.sound.proofs.Walks.{or_zero, all_turn, all_end}
 use borrow.Author.Rules.{rules}
 use Rattle.sound.proofs.zeros.Statement.{statement}
 use Rattle.sound.proofs.zeros.Tie as tie
@@ -33,7 +33,7 @@ loop-again c =
     let l = c.before.before.loop in
     let s = c.before.before.before.args.s.now in
     let h : l.i < length s = omega arith in
-    ap (λ (b : Bool). b && all is_zero (drop (l.i + 1) s)) (or-zero l.any (get_or s l.i 0)) ∙ all-turn is_zero 0 s (is_zero l.any) l.i h ∙ l.invariant
+    ap (λ (b : Bool). b && all is_zero (drop (l.i + 1) s)) (or_zero l.any (get_or s l.i 0)) ∙ all_turn is_zero 0 s (is_zero l.any) l.i h ∙ l.invariant
 
 returns : tie.Need-returns invariant-loop decreases-loop
 returns c =

@@ -4,7 +4,7 @@ use Prim.Native.Nat.{ℕ}
 use lib.ListN.{replicate}
 use borrow.Author.Rules.{rules}
 use Rattle.stores.specs.Geometry.{bank}
-use Rattle.requests.proofs.Fresh.{fresh-headers, fresh-pages}
+use Rattle.requests.proofs.Fresh.{fresh_headers, fresh_pages}
 use Rattle.requests.proofs.format.format.Statement.{statement}
 use Rattle.requests.proofs.format.format.Tie as tie
 
@@ -28,8 +28,8 @@ returns c =
     let z = c.before.before.before.before.before.before in
     let s = z.before.before.before.before.before.before.before.before in
     let b = bank s.args.slots s.args.size in (
-      fresh-headers b s.args.headers.now s.requires.0 _ _ z.before.before.before.before.zero.ensures c.before.before.put-control.ensures,
-      z.zero2.ensures ∙ ap (λ (m : ℕ). replicate m 0) s.requires.1.whole ∙ sym (fresh-pages b),
+      fresh_headers b s.args.headers.now s.requires.0 _ _ z.before.before.before.before.zero.ensures c.before.before.put-control.ensures,
+      z.zero2.ensures ∙ ap (λ (m : ℕ). replicate m 0) s.requires.1.whole ∙ sym (fresh_pages b),
     )
 
 pub format-spec : {M : Type 1} → statement M

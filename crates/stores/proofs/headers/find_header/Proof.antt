@@ -4,19 +4,19 @@ use mathlib.Core.Path.{◌≡◌, refl, sym, ◌∙◌}
 use native.Mathlib.Omega.{arith}
 use borrow.Author.Rules.{rules}
 use Rattle.paper.specs.Lists.{lowest}
-use Rattle.paper.specs.Tables.{headerSlots}
-use Rattle.paper.specs.Stores.{hasId}
-use Rattle.paper.specs.Bytes.{hsFrom}
-use Rattle.stores.proofs.HeaderSlots.{slotsFrom, slot-passes, slot-fails, slots_end}
+use Rattle.paper.specs.Tables.{header_slots}
+use Rattle.paper.specs.Stores.{has_id}
+use Rattle.paper.specs.Bytes.{hs_from}
+use Rattle.stores.proofs.HeaderSlots.{slots_from, slot_passes, slot_fails, slots_end}
 use Rattle.stores.proofs.headers.find_header.Statement.{statement}
 use Rattle.stores.proofs.headers.find_header.Tie as tie
 
 abbrev invariant-loop : tie.invariant-loop
 invariant-loop headers time id n₀ n =
-    (1 ≤ n) × (lowest (hasId time id) (hsFrom headers).headers ≡ slotsFrom (hasId time id) headers n)
+    (1 ≤ n) × (lowest (has_id time id) (hs_from headers).headers ≡ slots_from (has_id time id) headers n)
 
 abbrev decreases-loop : tie.decreases-loop
-decreases-loop headers time id n₀ n = headerSlots + 1 - n
+decreases-loop headers time id n₀ n = header_slots + 1 - n
 
 loop-holds : tie.Need-loop-init invariant-loop decreases-loop
 loop-holds c = (omega arith, refl)
@@ -28,7 +28,7 @@ returns : tie.Need-returns invariant-loop decreases-loop
 returns c =
     let t = c.before.before in
     let l = t.before.loop in
-    sym (l.invariant.1 ∙ slot-passes _ _ _ l.invariant.0 t.loop-test.true (sym c.before.has-id.ensures ∙ c.if1.true))
+    sym (l.invariant.1 ∙ slot_passes _ _ _ l.invariant.0 t.loop-test.true (sym c.before.has-id.ensures ∙ c.if1.true))
 
 add-n : tie.Need-overflow-add-n invariant-loop decreases-loop
 add-n c = search rules
@@ -40,7 +40,7 @@ loop-again : tie.Need-loop-preserved invariant-loop decreases-loop
 loop-again c =
     let t = c.before.before in
     let l = t.before.loop in
-    (omega arith, l.invariant.1 ∙ slot-fails _ _ _ l.invariant.0 t.loop-test.true (sym c.before.has-id.ensures ∙ c.if1.false))
+    (omega arith, l.invariant.1 ∙ slot_fails _ _ _ l.invariant.0 t.loop-test.true (sym c.before.has-id.ensures ∙ c.if1.false))
 
 returns-2 : tie.Need-returns-2 invariant-loop decreases-loop
 returns-2 c = sym (c.before.loop.invariant.1 ∙ slots_end _ _ _ c.loop-test.false)

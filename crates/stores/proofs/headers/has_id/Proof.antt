@@ -2,7 +2,7 @@
 use mathlib.Core.Path.{sym, ◌∙◌}
 use borrow.Author.Rules.{rules}
 use borrow.Author.Tests.{not-true, not-false}
-use Rattle.stores.proofs.HeaderSlots.{named-has, other-has-not}
+use Rattle.stores.proofs.HeaderSlots.{named_has, other_has_not}
 use Rattle.stores.proofs.headers.has_id.Statement.{statement}
 use Rattle.stores.proofs.headers.has_id.Tie as tie
 
@@ -13,7 +13,7 @@ returns : tie.Need-returns
 returns c =
     let i = c.before in
     let s = i.before.before in
-    other-has-not _ s.args.id _ _ s.requires.1 s.requires.2 (sym i.in-use-as.ensures ∙ not-true _ c.if1.true)
+    other_has_not _ s.args.id _ _ s.requires.1 s.requires.2 (sym i.in-use-as.ensures ∙ not-true _ c.if1.true)
 
 header-key-requires : tie.Need-header-key-requires
 header-key-requires c κs = search rules
@@ -23,7 +23,7 @@ returns-2 c =
     let k = c.before in
     let i = k.before.before in
     let s = i.before.before in
-    named-has _ s.args.id _ _ s.requires.1 s.requires.2 _ (sym i.in-use-as.ensures ∙ not-false _ k.before.if1.false) k.header-key.ensures
+    named_has _ s.args.id _ _ s.requires.1 s.requires.2 _ (sym i.in-use-as.ensures ∙ not-false _ k.before.if1.false) k.header-key.ensures
 
 pub has-id-spec : {M : Type 1} → statement M
 has-id-spec = tie.close (tie.spec in-use-as-requires returns header-key-requires returns-2)

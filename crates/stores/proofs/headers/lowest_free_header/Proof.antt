@@ -4,18 +4,18 @@ use mathlib.Core.Path.{◌≡◌, refl, sym, ◌∙◌}
 use native.Mathlib.Omega.{arith}
 use borrow.Author.Rules.{rules}
 use Rattle.paper.specs.Lists.{lowest}
-use Rattle.paper.specs.Tables.{headerSlots, headerFree}
-use Rattle.paper.specs.Bytes.{hsFrom}
-use Rattle.stores.proofs.HeaderSlots.{slotsFrom, slot-passes, slot-fails, slots_end}
+use Rattle.paper.specs.Tables.{header_slots, header_free}
+use Rattle.paper.specs.Bytes.{hs_from}
+use Rattle.stores.proofs.HeaderSlots.{slots_from, slot_passes, slot_fails, slots_end}
 use Rattle.stores.proofs.headers.lowest_free_header.Statement.{statement}
 use Rattle.stores.proofs.headers.lowest_free_header.Tie as tie
 
 abbrev invariant-loop : tie.invariant-loop
 invariant-loop headers time n₀ n =
-    (1 ≤ n) × (lowest (headerFree time) (hsFrom headers).headers ≡ slotsFrom (headerFree time) headers n)
+    (1 ≤ n) × (lowest (header_free time) (hs_from headers).headers ≡ slots_from (header_free time) headers n)
 
 abbrev decreases-loop : tie.decreases-loop
-decreases-loop headers time n₀ n = headerSlots + 1 - n
+decreases-loop headers time n₀ n = header_slots + 1 - n
 
 loop-holds : tie.Need-loop-init invariant-loop decreases-loop
 loop-holds c = (omega arith, refl)
@@ -27,7 +27,7 @@ returns : tie.Need-returns invariant-loop decreases-loop
 returns c =
     let t = c.before.before in
     let l = t.before.loop in
-    sym (l.invariant.1 ∙ slot-passes _ _ _ l.invariant.0 t.loop-test.true (sym c.before.free-header.ensures ∙ c.if1.true))
+    sym (l.invariant.1 ∙ slot_passes _ _ _ l.invariant.0 t.loop-test.true (sym c.before.free-header.ensures ∙ c.if1.true))
 
 add-n : tie.Need-overflow-add-n invariant-loop decreases-loop
 add-n c = search rules
@@ -39,7 +39,7 @@ loop-again : tie.Need-loop-preserved invariant-loop decreases-loop
 loop-again c =
     let t = c.before.before in
     let l = t.before.loop in
-    (omega arith, l.invariant.1 ∙ slot-fails _ _ _ l.invariant.0 t.loop-test.true (sym c.before.free-header.ensures ∙ c.if1.false))
+    (omega arith, l.invariant.1 ∙ slot_fails _ _ _ l.invariant.0 t.loop-test.true (sym c.before.free-header.ensures ∙ c.if1.false))
 
 returns-2 : tie.Need-returns-2 invariant-loop decreases-loop
 returns-2 c = sym (c.before.loop.invariant.1 ∙ slots_end _ _ _ c.loop-test.false)

@@ -1,8 +1,8 @@
 -- `store_header` writes the raised control, and then the header under the id that it issued.
 use mathlib.Core.Path.{refl}
 use native.Mathlib.Omega.{arith}
-use Rattle.stores.proofs.Outcomes.{goes, goes-not}
-use Rattle.stores.proofs.HeaderSlots.{named-fits, issued-below, no-ids, replaced}
+use Rattle.stores.proofs.Outcomes.{goes, goes_not}
+use Rattle.stores.proofs.HeaderSlots.{named_fits, issued_below, no_ids, replaced}
 use borrow.Author.Rules.{rules}
 use Rattle.stores.proofs.headers.store_header.Statement.{statement}
 use Rattle.stores.proofs.headers.store_header.Tie as tie
@@ -14,7 +14,7 @@ same_length : tie.Need-same-length
 same_length c = search rules
 
 returns : tie.Need-returns
-returns c = goes-not 0 _ _ 8 refl (no-ids _ _ _ _ c.before.before.control.ensures c.if1.true)
+returns c = goes_not 0 _ _ 8 refl (no_ids _ _ _ _ c.before.before.control.ensures c.if1.true)
 
 issue-requires : tie.Need-issue-requires
 issue-requires c κs = search rules
@@ -26,7 +26,7 @@ put-header-requires : tie.Need-put-header-requires
 put-header-requires c κs =
     let i = c.before.before.before.before.before.before.before in
     let s = i.before.before.before.before.before.before in
-    (omega arith, named-fits _ s.args.h s.requires.3 (issued-below _ _ i.issue.ensures i.before.if1.false))
+    (omega arith, named_fits _ s.args.h s.requires.3 (issued_below _ _ i.issue.ensures i.before.if1.false))
 
 same-length-2 : tie.Need-same-length-2
 same-length-2 c = search rules

@@ -1,9 +1,9 @@
 -- `destroy_page` zeroes the slot that the page id names.
 use mathlib.Core.Path.{ap, sym, ◌∙◌}
-use Rattle.paper.specs.Stores.{gone, destroyPage}
-use Rattle.paper.specs.Bytes.{psFrom}
+use Rattle.paper.specs.Stores.{gone, destroy_page}
+use Rattle.paper.specs.Bytes.{ps_from}
 use Rattle.stores.specs.Geometry.{bank}
-use Rattle.stores.proofs.Slots.{slot-room, zeroed}
+use Rattle.stores.proofs.Slots.{slot_room, zeroed}
 use Rattle.stores.proofs.Outcomes.{goes, outcomes}
 use native.Mathlib.Omega.{arith}
 use borrow.Author.Rules.{rules}
@@ -16,7 +16,7 @@ cast-slot c = search rules
 zero-slot-requires : tie.Need-zero-slot-requires
 zero-slot-requires c κs =
     let s = c.before.before.before.before in
-    (omega arith, slot-room s.requires.0 _ (omega arith) (omega arith))
+    (omega arith, slot_room s.requires.0 _ (omega arith) (omega arith))
 
 cast-t11 : tie.Need-overflow-cast-t11
 cast-t11 c = search rules
@@ -25,13 +25,13 @@ same_length : tie.Need-same-length
 same_length c = search rules
 
 returns : tie.Need-returns
-unfolding destroyPage
+unfolding destroy_page
 returns c =
     let s = c.before.before.before.before.before.before.before.before in
     let a = s.args in
     let b = bank a.slots a.size in
     goes a.outcome _ _ _ _ c.before.before.before.before.before.before.match.keys1
-    (ap (gone a.id.0) (sym (ap (psFrom b) c.before.before.before.zero-slot.ensures ∙ zeroed s.requires.0 a.id.0 s.requires.1.0 s.requires.1.1)))
+    (ap (gone a.id.0) (sym (ap (ps_from b) c.before.before.before.zero-slot.ensures ∙ zeroed s.requires.0 a.id.0 s.requires.1.0 s.requires.1.1)))
 
 returns-2 : tie.Need-returns-2
 returns-2 c = search (rules, outcomes)

@@ -3,17 +3,17 @@ use mathlib.Core.Path.{◌≡◌, refl, sym, ◌∙◌}
 use Prim.Native.Nat.{◌+◌, ◌-◌, ◌≤◌}
 use native.Mathlib.Omega.{arith}
 use Rattle.paper.specs.Lists.{lowest}
-use Rattle.paper.specs.Tables.{no_slot, slotFree}
-use Rattle.paper.specs.Bytes.{psFrom}
+use Rattle.paper.specs.Tables.{no_slot, slot_free}
+use Rattle.paper.specs.Bytes.{ps_from}
 use Rattle.stores.specs.Geometry.{bank}
-use Rattle.stores.proofs.Slots.{length-slots}
+use Rattle.stores.proofs.Slots.{length_slots}
 use Rattle.stores.proofs.Search.{from, passes, fails, none_left}
 use borrow.Author.Rules.{rules}
 use Rattle.stores.proofs.pages.lowest_free_slot.Statement.{statement}
 use Rattle.stores.proofs.pages.lowest_free_slot.Tie as tie
 
 abbrev invariant-loop : tie.invariant-loop
-invariant-loop pages slots size time n₀ n = (1 ≤ n) × (n ≤ slots + 1) × (lowest (slotFree time) (psFrom (bank slots size) pages) ≡ from (slotFree time) (no_slot (bank slots size)) (psFrom (bank slots size) pages) n)
+invariant-loop pages slots size time n₀ n = (1 ≤ n) × (n ≤ slots + 1) × (lowest (slot_free time) (ps_from (bank slots size) pages) ≡ from (slot_free time) (no_slot (bank slots size)) (ps_from (bank slots size) pages) n)
 
 abbrev decreases-loop : tie.decreases-loop
 decreases-loop pages slots size time n₀ n = slots + 1 - n
@@ -29,8 +29,8 @@ returns c =
     let l = c.before.before.before.loop in
     let a = c.before.before.before.before.before.args in
     let b = bank a.slots a.size in
-    let ps = psFrom b a.pages.now in
-    sym (l.invariant.2 ∙ passes (slotFree a.time) (no_slot b) ps l.n l.invariant.0 (omega (arith, length-slots a.slots a.size a.pages.now)) (sym c.before.free-slot.ensures ∙ c.if1.true))
+    let ps = ps_from b a.pages.now in
+    sym (l.invariant.2 ∙ passes (slot_free a.time) (no_slot b) ps l.n l.invariant.0 (omega (arith, length_slots a.slots a.size a.pages.now)) (sym c.before.free-slot.ensures ∙ c.if1.true))
 
 add-n : tie.Need-overflow-add-n invariant-loop decreases-loop
 add-n c = search rules
@@ -43,10 +43,10 @@ loop-again c =
     let l = c.before.before.before.loop in
     let a = c.before.before.before.before.before.args in
     let b = bank a.slots a.size in
-    let ps = psFrom b a.pages.now in (
+    let ps = ps_from b a.pages.now in (
       omega arith,
       omega arith,
-      l.invariant.2 ∙ fails (slotFree a.time) (no_slot b) ps l.n l.invariant.0 (omega (arith, length-slots a.slots a.size a.pages.now)) (sym c.before.free-slot.ensures ∙ c.if1.false),
+      l.invariant.2 ∙ fails (slot_free a.time) (no_slot b) ps l.n l.invariant.0 (omega (arith, length_slots a.slots a.size a.pages.now)) (sym c.before.free-slot.ensures ∙ c.if1.false),
     )
 
 returns-2 : tie.Need-returns-2 invariant-loop decreases-loop
@@ -54,8 +54,8 @@ returns-2 c =
     let l = c.before.loop in
     let a = c.before.before.before.args in
     let b = bank a.slots a.size in
-    let ps = psFrom b a.pages.now in
-    sym (l.invariant.2 ∙ none_left (slotFree a.time) (no_slot b) ps l.n (omega (arith, length-slots a.slots a.size a.pages.now)))
+    let ps = ps_from b a.pages.now in
+    sym (l.invariant.2 ∙ none_left (slot_free a.time) (no_slot b) ps l.n (omega (arith, length_slots a.slots a.size a.pages.now)))
 
 pub lowest-free-slot-spec : {M : Type 1} → statement M
 lowest-free-slot-spec =

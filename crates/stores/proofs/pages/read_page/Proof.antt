@@ -2,10 +2,10 @@
 use mathlib.Core.Path.{refl, ap, ◌∙◌}
 use native.Mathlib.Omega.{arith}
 use lib.ListN.{length}
-use Rattle.stores.proofs.Slots.{slot-room, length-contents, copied}
+use Rattle.stores.proofs.Slots.{slot_room, length_contents, copied}
 use Rattle.stores.proofs.Outcomes.{goes, outcomes}
 use borrow.Author.Rules.{rules}
-use Rattle.paper.specs.Stores.{readPage}
+use Rattle.paper.specs.Stores.{read_page}
 use Rattle.stores.proofs.pages.read_page.Statement.{statement}
 use Rattle.stores.proofs.pages.read_page.Tie as tie
 
@@ -15,12 +15,12 @@ cast-slot c = search rules
 contents-requires : tie.Need-contents-requires
 contents-requires c κs =
     let s = c.before.before.before.before in
-    (omega arith, slot-room s.requires.0 _ (omega arith) (omega arith))
+    (omega arith, slot_room s.requires.0 _ (omega arith) (omega arith))
 
 copy-requires : tie.Need-copy-requires
 copy-requires c κs =
     let s = c.before.before.before.before.before.before in
-    omega (arith, ap length c.before.contents.ensures ∙ length-contents s.requires.0 _ (omega arith) (omega arith))
+    omega (arith, ap length c.before.contents.ensures ∙ length_contents s.requires.0 _ (omega arith) (omega arith))
 
 cast-t13 : tie.Need-overflow-cast-t13
 cast-t13 c = search rules
@@ -29,7 +29,7 @@ same_length : tie.Need-same-length
 same_length c = search rules
 
 returns : tie.Need-returns
-unfolding readPage
+unfolding read_page
 returns c =
     let k = c.before.before.before in
     let s = k.before.before.before.before.before.before.before in

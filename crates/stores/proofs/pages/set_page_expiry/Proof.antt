@@ -1,10 +1,10 @@
 -- `set_page_expiry` writes another expiry into the slot that the page id names.
 use mathlib.Core.Path.{ap, sym, ◌∙◌}
 use Prim.Native.Nat.{◌<◌, ◌^◌}
-use Rattle.paper.specs.Stores.{gone, setPageExpiry}
-use Rattle.paper.specs.Bytes.{psFrom}
+use Rattle.paper.specs.Stores.{gone, set_page_expiry}
+use Rattle.paper.specs.Bytes.{ps_from}
 use Rattle.stores.specs.Geometry.{bank}
-use Rattle.stores.proofs.Slots.{slot-room, expired-at}
+use Rattle.stores.proofs.Slots.{slot_room, expired_at}
 use Rattle.stores.proofs.Outcomes.{goes, outcomes}
 use native.Mathlib.Omega.{arith}
 use borrow.Author.Rules.{rules}
@@ -17,7 +17,7 @@ cast-slot c = search rules
 put-expires-requires : tie.Need-put-expires-requires
 put-expires-requires c κs =
     let s = c.before.before.before.before in
-    (omega arith, slot-room s.requires.0 _ (omega arith) (omega arith))
+    (omega arith, slot_room s.requires.0 _ (omega arith) (omega arith))
 
 cast-t12 : tie.Need-overflow-cast-t12
 cast-t12 c = search rules
@@ -29,13 +29,13 @@ expires-fit : (s : tie.Start) → s.args.expires < 2 ^ 32
 expires-fit s = search rules
 
 returns : tie.Need-returns
-unfolding setPageExpiry
+unfolding set_page_expiry
 returns c =
     let s = c.before.before.before.before.before.before.before.before in
     let a = s.args in
     let b = bank a.slots a.size in
     goes a.outcome _ _ _ _ c.before.before.before.before.before.before.match.keys1
-    (ap (gone a.id.0) (sym (ap (psFrom b) c.before.before.before.put-expires.ensures ∙ expired-at s.requires.0 a.id.0 s.requires.1.0 s.requires.1.1 a.expires (expires-fit s) (λ i. (c.before.before.before.before.before.before.before.slice-known.given i).fits))))
+    (ap (gone a.id.0) (sym (ap (ps_from b) c.before.before.before.put-expires.ensures ∙ expired_at s.requires.0 a.id.0 s.requires.1.0 s.requires.1.1 a.expires (expires-fit s) (λ i. (c.before.before.before.before.before.before.before.slice-known.given i).fits))))
 
 returns-2 : tie.Need-returns-2
 returns-2 c = search (rules, outcomes)

@@ -5,8 +5,8 @@ use mathlib.Core.Logic.{⊎_elim}
 use native.Mathlib.Omega.{arith}
 use lib.ListN.{length}
 use Rattle.stores.specs.Geometry.{Geometry}
-use Rattle.stores.proofs.Sweep.{starts, met-few}
-use Rattle.stores.proofs.Slots.{slot-room, SweptSlots, sweep-passes, sweep-fails, swept-slots}
+use Rattle.stores.proofs.Sweep.{starts, met_few}
+use Rattle.stores.proofs.Slots.{slot_room, SweptSlots, sweep_passes, sweep_fails, swept_slots}
 use borrow.Author.Rules.{rules}
 use Rattle.stores.proofs.pages.sweep_slots.Statement.{statement}
 use Rattle.stores.proofs.pages.sweep_slots.Tie as tie
@@ -34,13 +34,13 @@ zero-slot-requires : tie.Need-zero-slot-requires invariant-loop decreases-loop
 zero-slot-requires c κs =
     let t = c.before.before.before.before in
     let l = t.before.loop in
-    (l.invariant.0, slot-room (whole t.before) l.n l.invariant.0 t.loop-test.true)
+    (l.invariant.0, slot_room (whole t.before) l.n l.invariant.0 t.loop-test.true)
 
 add-swept : tie.Need-overflow-add-swept invariant-loop decreases-loop
 add-swept c =
     let t = c.before.before.before.before.before.before.before in
     let l = t.before.loop in
-    omega (arith, met-few l.invariant.3, (whole t.before).few)
+    omega (arith, met_few l.invariant.3, (whole t.before).few)
 
 add-n : tie.Need-overflow-add-n invariant-loop decreases-loop
 add-n c = search rules
@@ -58,13 +58,13 @@ loop-again c =
       omega arith,
       omega arith,
       omega (arith, ap length w.5),
-      rw w.6 (sweep-passes (whole t.before) _ _ _ _ l.invariant.3 l.invariant.0 t.loop-test.true _ (w.5 ∙ w.2.ensures) (sym r ∙ w.0.taken)),
+      rw w.6 (sweep_passes (whole t.before) _ _ _ _ l.invariant.3 l.invariant.0 t.loop-test.true _ (w.5 ∙ w.2.ensures) (sym r ∙ w.0.taken)),
     ))
     (λ w. (
       omega arith,
       omega arith,
       ap length w.1 ∙ l.invariant.2,
-      rw (w.1, w.2) (sweep-fails (whole t.before) _ _ _ _ l.invariant.3 l.invariant.0 t.loop-test.true (sym r ∙ w.0.left)),
+      rw (w.1, w.2) (sweep_fails (whole t.before) _ _ _ _ l.invariant.3 l.invariant.0 t.loop-test.true (sym r ∙ w.0.left)),
     ))
     c.if1.branch
 
@@ -74,7 +74,7 @@ same_length c = search rules
 returns : tie.Need-returns invariant-loop decreases-loop
 returns c =
     let l = c.before.loop in
-    swept-slots _ _ _ _ _ _ _ l.invariant.3 c.loop-test.false
+    swept_slots _ _ _ _ _ _ _ l.invariant.3 c.loop-test.false
 
 pub sweep-slots-spec : {M : Type 1} → statement M
 sweep-slots-spec =
