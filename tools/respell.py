@@ -43,6 +43,8 @@ SPECIAL = {
     "S3": "s3",
     "S4": "s4",
     "S5": "s5",
+    # as the library spells it
+    "and-false": "and-false",
     # a definition before and after a list's function
     "bytes_take": "bytes-take",
     "bytes_drop": "bytes-drop",

@@ -1,4 +1,6 @@
 // Numbers read from bytes and written to them, most significant bit first.
+#![tactic(auto)]
+
 ghost use Rattle.std.specs.Prelude.{◌≡◌, ◌+◌, ◌*◌, ◌-◌, ◌%◌, ◌<◌, ◌≤◌, length, get_or};
 ghost use Rattle.bits.specs.Field.{field, pack, splice, be, nines, half_nines, Within};
 

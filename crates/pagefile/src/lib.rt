@@ -1,4 +1,6 @@
 // The library for C and Rust: each function is the border of its request, with the answer as a struct.
+#![tactic(auto)]
+
 ghost use Rattle.std.specs.Prelude.{◌≡◌, []};
 ghost use Rattle.paper.specs.Ids.{file_id, page_num};
 ghost use Rattle.paper.specs.Tables.{standard};

@@ -50,7 +50,7 @@ slots = slot true 0 100 1 ∷ slot true 0 200 2 ∷ slot true 0 50 3 ∷ no_slot
 abbrev lives : List ℕ → Header
 lives ps = header 1 10 20 100 ps
 
--- Page ids in an expired header are held only to s2.
+-- Page ids in an expired header are held only to S2.
 abbrev expired : Header
 expired = header 2 10 20 50 (1 ∷ 1 ∷ 4 ∷ [])
 
@@ -121,7 +121,7 @@ pub these_damaged : map rules damaged ≡ replicate 3 one ++ (replicate 13 two +
 unfolding computing
 these_damaged = refl
 
--- a slot not in use holds no page, whatever expiry stands in it: s3 and s4
+-- a slot not in use holds no page, whatever expiry stands in it: S3 and S4
 pub slot_not_in_use : rules (tables 3 0 (among (lives (1 ∷ []))) (slot false 0 200 0 ∷ [])) ≡ true ∷ true ∷ false ∷ false ∷ true ∷ []
 unfolding computing
 slot_not_in_use = refl

@@ -1,4 +1,6 @@
 // The types that every layer shares, and the methods of these types. What they mean is in specs/.
+#![tactic(auto)]
+
 ghost use Rattle.std.specs.Prelude.{◌≡◌, ◌<◌};
 ghost use Rattle.paper.specs.Ids.{no_more_ids};
 ghost use Rattle.paper.specs.Stores.{issued};

@@ -19,9 +19,9 @@ use Rattle.plain.proofs.Time.{time_facts, time_view}
 use Rattle.plain.proofs.Logic.{Ends, Does}
 use Rattle.plain.proofs.Phases.{Job, Phase, MayEnd, Stands, Anything, Ended, Given, plainly}
 
-and_false : (a : Bool) → a && false ≡ false
-and_false true = refl
-and_false false = refl
+and-false : (a : Bool) → a && false ≡ false
+and-false true = refl
+and-false false = refl
 
 -- the request on these tables
 abbrev pub job_of : Bank → ℕ → Request → Tables → Job
@@ -60,7 +60,7 @@ module _ (b : Bank) (now : ℕ) (q : Request) (t : Tables) where
       go : (p : Phase) → MayEnd p n → Stands (job_of b now q t) p Anything s.past s.tables → Kept b now q t (reply_of (lent_page q) (end n s))
       go Phase.waits m w = record {
         sound = facts_sound b s.tables w.shows.facts;
-        shown = rw (le-leb 1 n (omega arith), lt-leb n 3 (omega arith), ne_eqb n 0 (omega arith), w.past, and_false (eqb n 10)) w.shows.right;
+        shown = rw (le-leb 1 n (omega arith), lt-leb n 3 (omega arith), ne_eqb n 0 (omega arith), w.past, and-false (eqb n 10)) w.shows.right;
         success = λ z. absurd (omega arith);
       }
       go (Phase.done g) m w = record {

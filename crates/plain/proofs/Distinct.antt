@@ -19,6 +19,7 @@ pub data In (v : ℕ) : List ℕ → Type 0 where
 
 pub only : {v y : ℕ} → In v (y ∷ []) → v ≡ y
 only (here e) = e
+only {v = v} {y = y} (there i) = elim i [ ]
 
 absent_in : (v : ℕ) {ys : List ℕ} → absent v ys ≡ true → In v ys → ⊥
 absent_in v e (here {y = y} {ys = ys} p) =

@@ -43,17 +43,17 @@ pub record InUse (b : Bank) (c : Control) (h : Header) : Type 0 where
   pub sixteen : length h.pages ≡ 16
   pub small : (n : ℕ) → page_at h n ≤ b.slots
 
--- s2 of one header
+-- S2 of one header
 pub record HeaderFacts (b : Bank) (c : Control) (h : Header) : Type 0 where
   pub blank : h.used ≡ false → zero_header h ≡ true
   pub full : h.used ≡ true → InUse b c h
 
--- s4 of one slot, for a live header that expires at e
+-- S4 of one slot, for a live header that expires at e
 pub record Backs (s : Slot) (e : ℕ) : Type 0 where
   pub used : s.used ≡ true
   pub long : e ≤ s.expires
 
--- s4 of one header; then S2's "shared with no other" and s5, of the headers numbered i and j
+-- S4 of one header; then S2's "shared with no other" and S5, of the headers numbered i and j
 abbrev pub Backed : Bank → ℕ → PS → Header → Type 0
 Backed b c ps h = Live c h → (n : ℕ) → page_at h n ≢ 0 → Backs (slot_of b ps (page_at h n)) h.expires
 
@@ -63,7 +63,7 @@ IdOnce i j g h = g.used ≡ true → h.used ≡ true → g.id.0 ≡ h.id.0 → i
 abbrev pub PageOnce : ℕ → ℕ → ℕ → Header → Header → Type 0
 PageOnce c i j g h = Live c g → Live c h → (n m : ℕ) → page_at g n ≢ 0 → page_at g n ≡ page_at h m → (i ≡ j) × (n ≡ m)
 
--- s1 is next_low, next_high and spare; s2 header and ids; s3 slot; s4 backed; s5 once. There are as many slots as the bank has.
+-- S1 is next_low, next_high and spare; S2 header and ids; S3 slot; S4 backed; S5 once. There are as many slots as the bank has.
 pub record Facts (b : Bank) (t : Tables) : Type 0 where
   pub count : length t.ps ≡ b.slots
   pub next_low : 1 ≤ t.hs.control.next

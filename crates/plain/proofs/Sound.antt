@@ -1,4 +1,4 @@
--- The tests s1 to s5 and the facts say the same of tables: both ways, a rule at a time.
+-- The tests S1 to S5 and the facts say the same of tables: both ways, a rule at a time.
 -- Assumes nothing.
 use Prim.Native.Nat.{ℕ, zero, suc}
 use mathlib.Core.Path.{◌≡◌, refl, sym, ap, subst, ◌∙◌}
@@ -21,7 +21,7 @@ use Rattle.plain.proofs.Lists.{both_true, all_anywhere, all_by, all_numbered, nu
 use Rattle.plain.proofs.Distinct.{In, only, flat, in_flat, flat_once, once_flat, flat_in, single, map_those, those_map}
 use Rattle.plain.proofs.Facts.{page_at, slot_of, InUse, HeaderFacts, Backs, Backed, IdOnce, PageOnce, Facts, live_facts, live_test, not_live}
 
--- s2 and s3 of one record
+-- S2 and S3 of one record
 
 module _ (b : Bank) (c : Control) (h : Header) where
   good_facts : length h.pages ≡ 16 → good_header b c h ≡ true → InUse b c h
@@ -71,7 +71,7 @@ pub zeros_slot : (b : Bank) → slot_sound (no_slot b) ≡ true
 unfolding slot_sound zero_slot
 zeros_slot b = all_by is_zero 0 (replicate b.size 0) (λ i. ap is_zero (at-replicate b.size i 0))
 
--- s4 and s5
+-- S4 and S5
 
 module _ (b : Bank) (c : ℕ) (ps : PS) (h : Header) where
   held_facts : (n : ℕ) → held b ps h (get_or h.pages n null_page_id) ≡ true → page_at h n ≢ 0 → Backs (slot_of b ps (page_at h n)) h.expires

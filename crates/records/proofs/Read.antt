@@ -2,7 +2,7 @@
 -- Assumes nothing.
 use Prim.Native.Nat.{ℕ, ◌+◌, ◌*◌, ◌/◌, ◌%◌, ◌<◌, ◌≤◌}
 use mathlib.Core.Path.{◌≡◌, refl, sym, ap, ap₂, ◌∙◌}
-use mathlib.Core.Bool.{Bool, true, false, ◌&&◌, and_false}
+use mathlib.Core.Bool.{Bool, true, false, ◌&&◌, and-false}
 use mathlib.Core.List.{List, map}
 use native.Mathlib.Omega.{arith}
 use lib.ListN.{length, get_or, take, drop, get_or-map}
@@ -54,7 +54,7 @@ module _ (xs : List ℕ) (l : length xs ≡ 36) (id : FileId) where
   pub large_unused : 2147483647 < id.0 → false ≡ in_use_as id (header_from xs)
   large_unused h =
       let n = field 0 32 xs in
-      sym (and_false (is_one (n / 2147483648))) ∙ ap (λ (b : Bool). is_one (n / 2147483648) && b) (sym (ne_eqb (n % 2147483648) id.0 (λ z. absurd (omega arith)))) ∙ by_parts n refl
+      sym (and-false (is_one (n / 2147483648))) ∙ ap (λ (b : Bool). is_one (n / 2147483648) && b) (sym (ne_eqb (n % 2147483648) id.0 (λ z. absurd (omega arith)))) ∙ by_parts n refl
 
   pub whole_word : (n : ℕ) → n ≡ field 0 32 xs → id.0 ≤ 2147483647 → eqb n (2147483648 + id.0) ≡ in_use_as id (header_from xs)
   whole_word n e h = go (eqb n (2147483648 + id.0)) refl ∙ by_parts n e

@@ -1,4 +1,6 @@
 // Control, header and slot, read from a table's bytes and written to them in place.
+#![tactic(auto)]
+
 ghost use Rattle.std.specs.Prelude.{◌≡◌, ◌+◌, ◌*◌, ◌-◌, ◌≤◌, ◌<◌, length, take, drop, replicate, ◌++◌};
 ghost use Rattle.paper.specs.Stores.{expiring};
 ghost use Rattle.bits.specs.Field.{be, pack, splice, nines, Within};

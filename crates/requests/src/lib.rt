@@ -1,4 +1,6 @@
 // Each request carried out on sound tables. What any bytes can break is checked by `service`; a caller that holds sound tables calls these.
+#![tactic(auto)]
+
 pub mod format;
 pub mod look;
 

@@ -1,4 +1,6 @@
 // Rows of steps that several requests share, and the clock.
+#![tactic(auto)]
+
 pub mod ends;
 pub mod forms;
 

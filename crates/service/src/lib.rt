@@ -1,4 +1,6 @@
 // The requests on tables holding any bytes: each border refuses 1, 2 and 3 in that order with every buffer unchanged, and carries out the rest.
+#![tactic(auto)]
+
 ghost use Rattle.std.specs.Prelude.{◌≡◌, []};
 ghost use Rattle.paper.specs.Tables.{standard};
 ghost use Rattle.paper.specs.Answers.{Create, Write, Read, Info, Destroy, SetExpiry, Scavenge};

@@ -1,4 +1,6 @@
 // The sessions of the scope document: no input, a line for each with its number and the answers' numbers.
+#![tactic(auto)]
+
 ghost use Rattle.std.specs.Prelude.{◌≤◌};
 
 use paper::{Answer, FileId, PageNum};

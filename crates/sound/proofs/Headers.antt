@@ -2,7 +2,7 @@
 -- Assumes nothing.
 use Prim.Native.Nat.{ℕ, ◌+◌, ◌-◌, ◌*◌, ◌/◌, ◌≤◌, ◌<◌}
 use mathlib.Core.Path.{◌≡◌, refl, sym, ap, ap₂, ◌∙◌, subst}
-use mathlib.Core.Bool.{Bool, true, false, ◌&&◌, cond, and_false}
+use mathlib.Core.Bool.{Bool, true, false, ◌&&◌, cond, and-false}
 use mathlib.Core.List.{List, [], ◌∷◌, ◌++◌, append_assoc, append-nil}
 use native.Mathlib.Numerals.{add-one}
 use native.Mathlib.Omega.{arith}
@@ -81,7 +81,7 @@ module _ (b : Bank) (c : Control) (ps : PS) (seen : List Bool) where
       pub not_good : good_header b c h ≡ false → Told h Broken seen
       not_good g = (
         told_by h true false u ∙ ap (λ (t : Bool). told t h) (passes_by true _ false _ u refl g refl),
-        ap (λ (t : Bool). cond t (marked seen (ids_of h.pages)) seen) (sym (and_false (ltb c.clock h.expires))) ∙ after_by true _ false u refl g,
+        ap (λ (t : Bool). cond t (marked seen (ids_of h.pages)) seen) (sym (and-false (ltb c.clock h.expires))) ∙ after_by true _ false u refl g,
       )
 
       module _ (g : good_header b c h ≡ true) where

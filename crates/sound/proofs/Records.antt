@@ -1,4 +1,4 @@
--- What the control record says of s1, a slot's first word and zero bytes of s3, and a slot's head of s4.
+-- What the control record says of S1, a slot's first word and zero bytes of S3, and a slot's head of S4.
 -- Assumes nothing.
 use Prim.Native.Nat.{ℕ, ◌+◌, ◌-◌, ◌*◌, ◌/◌, ◌%◌, ◌≤◌, ◌<◌}
 use mathlib.Core.Path.{◌≡◌, refl, sym, ap, ap₂, ◌∙◌}
@@ -27,7 +27,7 @@ use Rattle.stores.specs.Geometry.{Geometry, bank}
 use Rattle.stores.proofs.Slots.{slot_room}
 use Rattle.sound.specs.Seen.{held_to}
 
--- s1 by the control record that was read
+-- S1 by the control record that was read
 module _ (xs : List ℕ) (c : Control) (e : c ≡ control_from (take 36 xs)) where
   by_control : leb 1 c.next && leb c.next no_more_ids && is_zero (spare_from (take 36 xs)) ≡ s1 (hs_from xs)
   unfolding s1 hs_from
@@ -116,7 +116,7 @@ module _ {slots size : ℕ} {xs : List ℕ} (g : Geometry slots size xs) (bytes 
     pub slot_otherwise : (w ≡ 2147483648 → ⊥) → all is_zero own ≡ slot_sound (slot_at (bank slots size) (ps_from (bank slots size) xs) (page_id n))
     slot_otherwise h = sound_otherwise own (part_bytes ((n - 1) * (8 + size)) (8 + size) xs bytes) own_long w e h ∙ ap slot_sound own_slot
 
--- s4 for a page id, by the head of its slot
+-- S4 for a page id, by the head of its slot
 pub held_by_head : (b : Bank) (ps : PS) (e n : ℕ) (k : SlotHead) (t : Slot) → 1 ≤ n → k ≡ head_of t → slot_at b ps (page_id n) ≡ t
     → k.used && leb e k.expires ≡ held_to b ps e (page_id n)
 unfolding held_to

@@ -1,8 +1,8 @@
--- The headers told one after the other over an unmarked map are s2 without the ids, s4 and s5; and the rules together.
+-- The headers told one after the other over an unmarked map are S2 without the ids, S4 and S5; and the rules together.
 -- Assumes nothing.
 use Prim.Native.Nat.{ℕ, ◌≤◌}
 use mathlib.Core.Path.{◌≡◌, refl, sym, ap, ap₂, ◌∙◌}
-use mathlib.Core.Bool.{Bool, true, false, ◌&&◌, cond, and_false}
+use mathlib.Core.Bool.{Bool, true, false, ◌&&◌, cond, and-false}
 use mathlib.Core.List.{List, [], ◌∷◌}
 use lib.Dec.{ltb}
 use lib.ListN.{length}
@@ -18,7 +18,7 @@ use Rattle.paper.proofs.Tests.{both}
 use Rattle.sound.proofs.Headers.{good_within}
 use Rattle.sound.proofs.Unseen.{unseen, nonzero, unseen_append, unseen_nonzero, marked_nonzero, once_apart, in_map, unseen_distinct, ids_in_map}
 
--- s4 for one header
+-- S4 for one header
 held_all : Bank → Control → PS → Header → Bool
 held_all b c ps h = cond (live c.clock h) (all (held b ps h) h.pages) true
 
@@ -114,7 +114,7 @@ module _ (b : Bank) (t : Tables) where
   slot_breaks e =
       sym
       (ap (λ (s : Bool). s1 t.hs && s2 b t.hs && s && s4 b t && s5 t.hs) e
-      ∙ ap (λ (s : Bool). s && s4 b t && s5 t.hs) (and_false (s1 t.hs && s2 b t.hs)))
+      ∙ ap (λ (s : Bool). s && s4 b t && s5 t.hs) (and-false (s1 t.hs && s2 b t.hs)))
 
   module _ (seen : List Bool) (m : Unmarked b.slots seen) where
     abbrev c : Control

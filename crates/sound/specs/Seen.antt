@@ -34,7 +34,7 @@ unfoldable pub marked : List Bool → List ℕ → List Bool
 marked seen [] = seen
 marked seen (n ∷ ns) = marked (mark seen n) ns
 
--- s4 for one page id of a header, by the header's expiry
+-- S4 for one page id of a header, by the header's expiry
 unfoldable pub held_to : Bank → PS → ℕ → PageId → Bool
 held_to b ps e p = is_zero p.0 || ((slot_at b ps p).used && leb e (slot_at b ps p).expires)
 
@@ -43,7 +43,7 @@ unfoldable pub once : (PageId → Bool) → List Bool → List PageId → Bool
 once f seen [] = true
 once f seen (p ∷ ps) = (f p && not (is_marked seen p.0)) && once f (mark seen p.0) ps
 
--- a header alone, and against the slots and the map: s2 without the others' ids, s4, s5
+-- a header alone, and against the slots and the map: S2 without the others' ids, S4, S5
 unfoldable pub passes : Bank → Control → PS → List Bool → Header → Bool
 passes b c ps seen h =
     cond h.used

@@ -1,4 +1,6 @@
-// s1 to s5 over both tables. Slot count, contents length and the map of slots seen come in at run time; a bank is a thin layer over them.
+// S1 to S5 over both tables. Slot count, contents length and the map of slots seen come in at run time; a bank is a thin layer over them.
+#![tactic(auto)]
+
 ghost use Rattle.std.specs.Prelude.{◌≡◌, true, ◌&&◌, ℕ, ◌+◌, ◌≤◌, length, take, drop};
 ghost use Rattle.paper.specs.Ids.{page_id};
 ghost use Rattle.paper.specs.Lists.{all, absent, distinct, is_zero};
@@ -31,7 +33,7 @@ fn zeros(s: &[u8]) -> bool
     any == 0
 }
 
-// s1.
+// S1.
 fn control_sound(headers: &[u8]) -> bool
     requires { length headers.now ≡ headers_length }
     ensures { result ≡ s1 (hs_from headers.now) }
@@ -61,7 +63,7 @@ fn slot_sound(pages: &[u8], slots: usize, size: usize, n: usize) -> bool
     zeros(s)
 }
 
-// s3.
+// S3.
 fn slots_sound(pages: &[u8], slots: usize, size: usize) -> bool
     requires { Geometry slots size pages.now }
     ensures { result ≡ s3 (ps_from (bank slots size) pages.now) }
@@ -115,7 +117,7 @@ fn ids_within(ids: [PageId; 16], slots: usize) -> bool
     within
 }
 
-// s2 for a header in use, without the ids of the others.
+// S2 for a header in use, without the ids of the others.
 fn good_header(h: Header, c: Control, slots: usize) -> bool
     ensures { (size : ℕ) → result ≡ good_header (bank slots size) c h }
 {
@@ -129,7 +131,7 @@ fn good_header(h: Header, c: Control, slots: usize) -> bool
         & ids_within(ids, slots)
 }
 
-// s4 for one page id but 0: its slot is in use and lasts as long as the header.
+// S4 for one page id but 0: its slot is in use and lasts as long as the header.
 fn page_held(pages: &[u8], slots: usize, size: usize, n: usize, expires: u32) -> bool
     requires geometry { Geometry slots size pages.now }
     requires le_n { (1 ≤ n) × (n ≤ slots) }
@@ -139,7 +141,7 @@ fn page_held(pages: &[u8], slots: usize, size: usize, n: usize, expires: u32) ->
     s.used & (expires <= s.expires)
 }
 
-// s4 and s5 for eight of a live header's page ids, from the one with index `from` on; no exit per id.
+// S4 and S5 for eight of a live header's page ids, from the one with index `from` on; no exit per id.
 fn held_half(
     pages: &[u8],
     slots: usize,
@@ -169,7 +171,7 @@ fn held_half(
     good
 }
 
-// s4 and s5 for a live header: each page id but 0 is held and not seen before, and is marked; in halves, as eight turns compile to no loop.
+// S4 and S5 for a live header: each page id but 0 is held and not seen before, and is marked; in halves, as eight turns compile to no loop.
 fn held_once(
     pages: &[u8],
     slots: usize,
@@ -249,7 +251,7 @@ fn header_sound(
     named_sound(headers, n, c, pages, slots, size, seen)
 }
 
-// s2, s4 and s5: the ids in use are gathered before they are compared.
+// S2, S4 and S5: the ids in use are gathered before they are compared.
 fn headers_sound(
     headers: &[u8],
     c: Control,
@@ -282,7 +284,7 @@ fn headers_sound(
     all_distinct(&ids[..count])
 }
 
-// s1 to s5 for any bank, over a map of page slots seen that is filled while the headers are walked.
+// S1 to S5 for any bank, over a map of page slots seen that is filled while the headers are walked.
 pub fn tables_sound(
     headers: &[u8],
     pages: &[u8],
@@ -305,7 +307,7 @@ pub fn tables_sound(
     headers_sound(headers, c, pages, slots, size, seen)
 }
 
-// s1 to s5 for the bank of document 01.
+// S1 to S5 for the bank of document 01.
 pub fn standard(headers: &[u8], pages: &[u8]) -> bool
     requires { (length headers.now ≡ headers_length) × (length pages.now ≡ pages_length standard) }
     ensures { result ≡ sound standard (tables_from standard headers.now pages.now) }

@@ -1,4 +1,4 @@
--- `tables_sound` tests s1 and s3, and then the headers: s2, s4 and s5.
+-- `tables_sound` tests S1 and S3, and then the headers: S2, S4 and S5.
 use mathlib.Core.Path.{sym, ap, ◌∙◌}
 use mathlib.Core.Bool.{◌&&◌}
 use borrow.Author.Tests.{not-true, not-false}
