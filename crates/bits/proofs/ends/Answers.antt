@@ -5,45 +5,32 @@ use native.Mathlib.Nat.{one-mul}
 use native.Mathlib.Omega.{arith}
 use lib.ListN.{length}
 use lib.Pow.{shl_exact, pow_pos}
-use borrow.Author.Rules.{rules}
+use Rattle.std.proofs.Common.{rules}
 use Rattle.bits.specs.Field.{pack, half_nines}
 use Rattle.bits.proofs.Within.{within_length}
 use Rattle.bits.proofs.Layouts.{length_pack}
 use Rattle.bits.proofs.Fields.{field_back, field_none, packed}
-use Rattle.bits.proofs.ends.Statement.{statement}
-use Rattle.bits.proofs.ends.Tie as tie
+use Rattle.bits.proofs.ends.Goals as goal
 
-returns : tie.Need-returns
-returns c =
-    let s = c.before in
+pub returns-then-j-eq0 : goal.returns-then-j-eq0
+returns-then-j-eq0 c =
+    let s = c in
     field_none (8 * s.args.j) s.args.j (pack half_nines s.args.ids.now) (omega arith)
 
-sub-result : tie.Need-overflow-sub-result
-sub-result c = search rules
-
-mul-result : tie.Need-overflow-mul-result
-mul-result c = search rules
-
-shared-slice-read-result : tie.Need-shared-slice-read-result
-shared-slice-read-result c = omega (arith, within_length c.before.before.requires.1)
-
-cast-result : tie.Need-overflow-cast-result
-cast-result c = search rules
-
-shl-result : tie.Need-overflow-shl-result
-shl-result c = search rules
+pub bounds-ids-j : goal.bounds-ids-j
+bounds-ids-j c = omega (arith, within_length c.requires.1)
 
 one_shl : (j : ℕ) → j < 9 → (1 * 2 ^ j) % 65536 ≡ 2 ^ j
 one_shl j h = shl_exact {a = 1} 1 j 16 (omega arith) (omega arith) ∙ one-mul (2 ^ j)
 
-rem-result : tie.Need-nonzero-rem-result
-rem-result c =
-    let j = c.before.before.args.j in
+pub nonzero_rem-result : goal.nonzero_rem-result
+nonzero_rem-result c =
+    let j = c.args.j in
     subst (λ (n : ℕ). 0 < n) (sym (one_shl j (omega arith))) (pow_pos j)
 
-returns-2 : tie.Need-returns-2
-returns-2 c =
-    let s = c.before.before in
+pub returns : goal.returns
+returns c =
+    let s = c in
     let j = s.args.j in
     let vs = s.args.ids.now in
     let b = pack half_nines vs in
@@ -51,16 +38,3 @@ returns-2 c =
     let l : length b ≡ 9 = length_pack half_nines 9 refl vs in
     ap₂ (λ (m n : ℕ). m % n) (sym (packed 8 9 9 i vs refl s.requires.1 (omega arith))) (one_shl j (omega arith))
     ∙ field_back (9 * i) 9 (8 * j) j b (omega arith) (omega arith) (omega arith)
-
-pub ends-spec : {M : Type 1} → statement M
-ends-spec =
-    tie.close
-    (tie.spec
-    returns
-    sub-result
-    mul-result
-    shared-slice-read-result
-    cast-result
-    shl-result
-    rem-result
-    returns-2)
