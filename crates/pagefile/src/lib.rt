@@ -12,7 +12,7 @@ use paper::{Answer, FileId, PageNum};
 
 // `pagefile_answer` in C: the number, and on Success the id issued, or 0.
 #[repr(C)]
-#[derive(Drop)]
+#[derive(Clone, Copy)]
 pub struct Answered {
     pub number: u8,
     pub id: u32,
@@ -20,7 +20,7 @@ pub struct Answered {
 
 // `pagefile_facts` in C: the number, and on Success what Info gives.
 #[repr(C)]
-#[derive(Drop)]
+#[derive(Clone, Copy)]
 pub struct Told {
     pub number: u8,
     pub owner: u16,
@@ -31,7 +31,7 @@ pub struct Told {
 
 // `pagefile_swept` in C: the number, and on Success what Scavenge zeroed.
 #[repr(C)]
-#[derive(Drop)]
+#[derive(Clone, Copy)]
 pub struct Counted {
     pub number: u8,
     pub headers: u32,

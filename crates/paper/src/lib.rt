@@ -6,24 +6,24 @@ ghost use Rattle.paper.specs.Ids.{no_more_ids};
 ghost use Rattle.paper.specs.Stores.{issued};
 
 // 1 to 2,147,483,647; 0 is NullId.
-#[derive(Drop)]
+#[derive(Clone, Copy)]
 pub struct FileId(pub u32);
 
 // 1 to the bank's slot count, the slot's number; 0 is NullPageId.
-#[derive(Drop)]
+#[derive(Clone, Copy)]
 pub struct PageId(pub u16);
 
 // 0 to 15.
-#[derive(Drop)]
+#[derive(Clone, Copy)]
 pub struct PageNum(pub u8);
 
-#[derive(Drop)]
+#[derive(Clone, Copy)]
 pub struct Control {
     pub next: u32,
     pub clock: u32,
 }
 
-#[derive(Drop)]
+#[derive(Clone, Copy)]
 pub struct Issued {
     pub id: FileId,
     pub control: Control,
@@ -44,7 +44,7 @@ impl Control {
     }
 }
 
-#[derive(Drop)]
+#[derive(Clone, Copy)]
 pub struct Header {
     pub used: bool,
     pub id: FileId,
@@ -56,21 +56,21 @@ pub struct Header {
 }
 
 // A search's answer: the number of a slot, from 1.
-#[derive(Drop)]
+#[derive(Clone, Copy)]
 pub enum Found {
     At(usize),
     Nothing,
 }
 
 // A step's result: gone through with a slot or id number, refused with the answer's number, or cut.
-#[derive(Drop)]
+#[derive(Clone, Copy)]
 pub enum Step {
     Gone(u32),
     Refused(u8),
     Cut,
 }
 
-#[derive(Drop)]
+#[derive(Clone, Copy)]
 pub struct Facts {
     pub owner: u16,
     pub created: u32,
@@ -79,14 +79,14 @@ pub struct Facts {
 }
 
 // How many slots a Scavenge zeroed.
-#[derive(Drop)]
+#[derive(Clone, Copy)]
 pub struct Swept {
     pub headers: u32,
     pub pages: u32,
 }
 
 // Success is the first three: with the id issued or NullId, of Info, of Scavenge.
-#[derive(Drop)]
+#[derive(Clone, Copy)]
 pub enum Answer {
     Success(FileId),
     Told(Facts),

@@ -10,7 +10,7 @@ ghost use Rattle.records.specs.Fits.{HeaderFits, head_of, key_of, slot_with, in_
 use paper::{Control, FileId, Header, PageId};
 
 // A page slot without its contents, which stay in the table.
-#[derive(Drop)]
+#[derive(Clone, Copy)]
 pub struct SlotHead {
     pub used: bool,
     pub spare: u32,
@@ -184,7 +184,7 @@ fn pack_slot(s: &mut [u8], head: SlotHead, page: &[u8])
 {
     bits::put32(s, 0, first_word(head.used, head.spare));
     bits::put32(s, 4, head.expires);
-    bytes::copy(page, &mut s[8..]);
+    s[8..].copy_from_slice(page);
 }
 
 // All of the slot is written.
@@ -247,7 +247,7 @@ pub fn zero_header(headers: &mut [u8], n: usize)
 }
 
 // What a search for a free or an expired slot looks at, without unpacking the rest.
-#[derive(Drop)]
+#[derive(Clone, Copy)]
 pub struct HeaderKey {
     pub used: bool,
     pub expires: u32,

@@ -15,14 +15,14 @@ ghost use Rattle.rows.specs.Rows.{clocked, opening, deed_on, each_deed};
 use paper::{FileId, PageId, Step};
 
 // How a row of steps went, and how many steps of the request were then taken.
-#[derive(Drop)]
+#[derive(Clone, Copy)]
 pub struct Row {
     pub step: Step,
     pub taken: usize,
 }
 
 // What a row does to a page.
-#[derive(Drop)]
+#[derive(Clone, Copy)]
 pub enum Deed {
     Destroy,
     Expire(u32),

@@ -13,7 +13,7 @@ ghost use Rattle.sound.specs.Seen.{Unmarked, marked, held_to, once, passes, seen
 use paper::{Control, Header, PageId};
 
 // What is found of a header slot: it breaks a rule, is not in use, or is in use under an id.
-#[derive(Drop)]
+#[derive(Clone, Copy)]
 enum Checked {
     Broken,
     Empty,

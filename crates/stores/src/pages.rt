@@ -126,7 +126,7 @@ pub fn read_page(
         0 => {
             let slot = id.0 as usize;
             let c = records::contents(pages, size, slot);
-            bytes::copy(c, lent);
+            lent.copy_from_slice(c);
             Step::Gone(id.0 as u32)
         }
         1 => Step::Refused(9),
