@@ -67,17 +67,12 @@ slot_parts s p e =
     ∙ ap₂ (λ (a b : List ℕ). a ++ b) (word (bit s.used) s.spare) (pack_one 32 4 s.expires refl))
 
 -- two words and a copy behind them fill a slot: what the copy left in the part that it was lent, put back
-pub slot_over : (w e : ℕ) (page xs ys last : List ℕ) → length xs ≡ 8 + length page → ys ≡ splice 4 (be 4 e) (splice 0 (be 4 w) xs)
-    → last ≡ take (length page) page ++ drop (length page) (take (length ys - 8) (drop 8 ys))
+pub slot_over : (w e : ℕ) (page xs ys last : List ℕ) → length xs ≡ 8 + length page → ys ≡ splice 4 (be 4 e) (splice 0 (be 4 w) xs) → last ≡ page
     → put_mid 8 (length ys - 8) ys last ≡ be 4 w ++ (be 4 e ++ page)
-slot_over w e page xs ys last l p q =
+slot_over w e page xs ys last l p copied =
     let words = be 4 w ++ be 4 e in
     let two : ys ≡ splice 0 words xs = p ∙ splice-splice 0 4 (be 4 w) (be 4 e) xs (omega arith) (omega arith) in
     let ly : length ys ≡ 8 + length page = ap length two ∙ length_splice 0 words xs (omega arith) ∙ l in
-    let part : length (take (length ys - 8) (drop 8 ys)) ≡ length page = simp (length-take, length-drop) (omega arith) in
-    let copied : last ≡ page = q
-    ∙ ap₂ (λ (a b : List ℕ). a ++ b) (take-length page) (drop_of_length-le (take (length ys - 8) (drop 8 ys)) {i = length page} (omega arith))
-    ∙ append-nil page in
     splice_part 8 (length ys - 8) last ys (ap length copied ∙ omega arith)
     ∙ ap₂ (splice 8) copied two ∙ splice-splice 0 8 words page xs (omega arith) (omega arith)
     ∙ splice_all (words ++ page) xs (omega arith)

@@ -1,0 +1,16 @@
+-- `in_use_as` looks at the record at n times 36.
+use mathlib.Core.Path.{◌≡◌, ap, ◌∙◌}
+use Prim.Native.Nat.{ℕ, ◌+◌, ◌-◌, ◌*◌}
+use native.Mathlib.Omega.{arith}
+use lib.ListN.{take, drop}
+use Rattle.paper.specs.Bytes.{header_from}
+use Rattle.records.specs.Fits.{in_use_as}
+use Rattle.std.proofs.Common.{rules}
+use Rattle.records.proofs.in_use_as.Goals as goal
+
+pub returns : goal.returns
+returns c =
+    let s = c in
+    let a = s.args.n * 36 in
+    let e : a + 36 - a ≡ 36 = omega arith in
+    c.word_is.ensures ∙ ap (λ (k : ℕ). in_use_as s.args.id (header_from (take k (drop a s.args.headers.now)))) e
