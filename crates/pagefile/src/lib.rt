@@ -1,4 +1,4 @@
-// The library for C and Rust: each function is the border of its request, with the answer as a struct.
+// The library that C and Rust link, by the exports of `pagefile_c`: each function is the border of its request, with the answer as a struct.
 #![tactic(auto)]
 
 ghost use Rattle.std.specs.Prelude.{◌≡◌, []};
@@ -88,16 +88,14 @@ fn as_counted(a: Answer) -> Counted
     }
 }
 
-#[unsafe(no_mangle)]
-pub extern "C" fn pagefile_format(headers: &mut [u8], pages: &mut [u8]) -> u8
+pub fn pagefile_format(headers: &mut [u8], pages: &mut [u8]) -> u8
     ensures { seen result [] headers.new pages.new ≡ seen_by numbered (format standard headers.old pages.old) }
 {
     let a = service::format(headers, pages);
     rows::ends::number(a)
 }
 
-#[unsafe(no_mangle)]
-pub extern "C" fn pagefile_create(
+pub fn pagefile_create(
     headers: &mut [u8],
     pages: &mut [u8],
     outcomes: &[u8],
@@ -122,8 +120,7 @@ pub extern "C" fn pagefile_create(
     as_answered(a)
 }
 
-#[unsafe(no_mangle)]
-pub extern "C" fn pagefile_write(
+pub fn pagefile_write(
     headers: &mut [u8],
     pages: &mut [u8],
     outcomes: &[u8],
@@ -148,8 +145,7 @@ pub extern "C" fn pagefile_write(
     as_answered(a)
 }
 
-#[unsafe(no_mangle)]
-pub extern "C" fn pagefile_read(
+pub fn pagefile_read(
     headers: &mut [u8],
     pages: &[u8],
     outcomes: &[u8],
@@ -172,8 +168,7 @@ pub extern "C" fn pagefile_read(
     as_answered(a)
 }
 
-#[unsafe(no_mangle)]
-pub extern "C" fn pagefile_info(
+pub fn pagefile_info(
     headers: &mut [u8],
     pages: &[u8],
     outcomes: &[u8],
@@ -186,8 +181,7 @@ pub extern "C" fn pagefile_info(
     as_told(a)
 }
 
-#[unsafe(no_mangle)]
-pub extern "C" fn pagefile_destroy(
+pub fn pagefile_destroy(
     headers: &mut [u8],
     pages: &mut [u8],
     outcomes: &[u8],
@@ -201,8 +195,7 @@ pub extern "C" fn pagefile_destroy(
     as_answered(a)
 }
 
-#[unsafe(no_mangle)]
-pub extern "C" fn pagefile_set_expiry(
+pub fn pagefile_set_expiry(
     headers: &mut [u8],
     pages: &mut [u8],
     outcomes: &[u8],
@@ -217,8 +210,7 @@ pub extern "C" fn pagefile_set_expiry(
     as_answered(a)
 }
 
-#[unsafe(no_mangle)]
-pub extern "C" fn pagefile_scavenge(
+pub fn pagefile_scavenge(
     headers: &mut [u8],
     pages: &mut [u8],
     outcomes: &[u8],
@@ -231,8 +223,7 @@ pub extern "C" fn pagefile_scavenge(
 }
 
 // The page's slot, 0 for the blank.
-#[unsafe(no_mangle)]
-pub extern "C" fn pagefile_look(headers: &[u8], pages: &[u8], time: u32, id: u32, number: u8) -> u16
+pub fn pagefile_look(headers: &[u8], pages: &[u8], time: u32, id: u32, number: u8) -> u16
     ensures { result ≡ (look_slot standard time (file_id id) (page_num number) headers.now pages.now).0 }
 {
     let p = service::look_slot(headers, pages, time, FileId(id), PageNum(number));
