@@ -168,13 +168,7 @@ pub fn pagefile_read(
     as_answered(a)
 }
 
-pub fn pagefile_info(
-    headers: &mut [u8],
-    pages: &[u8],
-    outcomes: &[u8],
-    time: u32,
-    id: u32,
-) -> Told
+pub fn pagefile_info(headers: &mut [u8], pages: &[u8], outcomes: &[u8], time: u32, id: u32) -> Told
     ensures { seen result [] headers.new pages.now ≡ seen_by told (serve_bytes standard time outcomes.now (Info (file_id id)) headers.old pages.now) }
 {
     let a = service::info(headers, pages, outcomes, time, FileId(id));

@@ -30,7 +30,9 @@ pub extern "C" fn pagefile_create(
 ) -> Answered
     ensures { seen result page.now headers.new pages.new ≡ seen_by answered (serve_bytes standard time outcomes.now (Create client (page_num number) page.now expires) headers.old pages.old) }
 {
-    pagefile::pagefile_create(headers, pages, outcomes, time, client, number, page, expires)
+    pagefile::pagefile_create(
+        headers, pages, outcomes, time, client, number, page, expires,
+    )
 }
 
 #[unsafe(no_mangle)]

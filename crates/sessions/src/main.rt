@@ -39,16 +39,19 @@ fn begin(
     let page = [65u8; 120];
     let outcomes = [0u8; 18];
     service::format(headers, pages);
-    show(rt, service::create(
-        headers,
-        pages,
-        &outcomes,
-        10,
-        CLIENT,
-        PageNum(0),
-        &page,
-        expires,
-    ))
+    show(
+        rt,
+        service::create(
+            headers,
+            pages,
+            &outcomes,
+            10,
+            CLIENT,
+            PageNum(0),
+            &page,
+            expires,
+        ),
+    )
 }
 
 fn read(
@@ -61,15 +64,18 @@ fn read(
 ) -> io::Result<()> {
     let mut lent = [0u8; 120];
     let outcomes = [0u8; 18];
-    show(rt, service::read(
-        headers,
-        pages,
-        &outcomes,
-        time,
-        FileId(id),
-        PageNum(number),
-        &mut lent,
-    ))
+    show(
+        rt,
+        service::read(
+            headers,
+            pages,
+            &outcomes,
+            time,
+            FileId(id),
+            PageNum(number),
+            &mut lent,
+        ),
+    )
 }
 
 // Page B to number 0, with an outcome for one step.
@@ -87,16 +93,19 @@ fn write(
 {
     let page = [66u8; 120];
     let outcomes = failing(step, outcome);
-    show(rt, service::write(
-        headers,
-        pages,
-        &outcomes,
-        time,
-        client,
-        FileId(id),
-        PageNum(0),
-        &page,
-    ))
+    show(
+        rt,
+        service::write(
+            headers,
+            pages,
+            &outcomes,
+            time,
+            client,
+            FileId(id),
+            PageNum(0),
+            &page,
+        ),
+    )
 }
 
 fn set_expiry(
@@ -109,27 +118,23 @@ fn set_expiry(
     requires { step ≤ 18 }
 {
     let outcomes = failing(step, 1);
-    show(rt, service::set_expiry(headers, pages, &outcomes, 20, CLIENT, FileId(1), expires))
+    show(
+        rt,
+        service::set_expiry(headers, pages, &outcomes, 20, CLIENT, FileId(1), expires),
+    )
 }
 
-fn destroy(
-    rt: &impl Print,
-    headers: &mut [u8],
-    pages: &mut [u8],
-    step: usize,
-) -> io::Result<()>
+fn destroy(rt: &impl Print, headers: &mut [u8], pages: &mut [u8], step: usize) -> io::Result<()>
     requires { step ≤ 18 }
 {
     let outcomes = failing(step, 1);
-    show(rt, service::destroy(headers, pages, &outcomes, 20, CLIENT, FileId(1)))
+    show(
+        rt,
+        service::destroy(headers, pages, &outcomes, 20, CLIENT, FileId(1)),
+    )
 }
 
-fn scavenge(
-    rt: &impl Print,
-    headers: &mut [u8],
-    pages: &mut [u8],
-    time: u32,
-) -> io::Result<()> {
+fn scavenge(rt: &impl Print, headers: &mut [u8], pages: &mut [u8], time: u32) -> io::Result<()> {
     let outcomes = [0u8; 18];
     show(rt, service::scavenge(headers, pages, &outcomes, time))
 }
