@@ -1,4 +1,4 @@
-# Sourced by must-fail and wrong-definitions: what trying an edit has in common.
+# Sourced by wrong-definitions and refusals: what trying an edit has in common.
 
 # apply_edit FOLDER EDIT: makes the replacements of EDIT in the crate at FOLDER, or says why it cannot. A 'file:' line names a
 # file of the crate and holds for the 'old:' and 'new:' pairs after it; an old text stands once in its file. Other lines are passed over.
@@ -24,7 +24,7 @@ apply_edit() {
 }
 
 # unfit ERROR: whether a refusal shows nothing about what its edit was to break: the edit only made a file unfit, or nothing was decided
-unfit() { grep -qE 'has no `|has no field|is not in scope|step limit|expected a ' <<<"$1"; }
+unfit() { grep -qE 'has no `|has no field|is not in scope|cannot be named|step limit|expected a ' <<<"$1"; }
 
 # each FUNCTION: runs it for each line of the input, with its words, as many at a time as there are processors
 each() {
