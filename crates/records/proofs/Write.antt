@@ -3,10 +3,10 @@
 use Prim.Native.Nat.{ℕ, ◌+◌, ◌-◌, ◌*◌, ◌^◌, ◌<◌, ◌≤◌}
 use mathlib.Core.Path.{◌≡◌, refl, sym, ap, ap₂, ◌∙◌}
 use mathlib.Core.Bool.{Bool, true, false}
-use mathlib.Core.List.{List, [], ◌∷◌, ◌++◌, append_assoc, append-nil}
+use mathlib.Core.List.{List, [], ◌∷◌, ◌++◌, append_assoc}
 use native.Mathlib.Omega.{arith}
-use lib.ListN.{length, take, drop, length-append, length-take, length-drop, drop_of_length-le}
-use lib.Seq.{length-take-le, take-length, take-add, drop_at}
+use lib.ListN.{length, take, drop, length-append}
+use lib.Seq.{length-take-le, take-add, drop_at}
 use borrow.Rule.Slice.PartMut.{put_mid}
 use Rattle.bits.specs.Field.{pack, be, splice, nines, Bytes}
 use Rattle.bits.specs.Field.Within.{none, one}

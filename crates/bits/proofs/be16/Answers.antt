@@ -1,6 +1,5 @@
 -- `be16` reads the field of 16 bits: a field of two bytes is the first times 256 and the second.
 use native.Mathlib.Omega.{arith}
-use Rattle.std.proofs.Common.{rules}
 use Rattle.bits.proofs.Fields.{field_16}
 use Rattle.bits.proofs.be16.Goals as goal
 

@@ -1,6 +1,5 @@
 -- `be32` reads the field of 32 bits: a field of four bytes is their sum, each times its place.
 use native.Mathlib.Omega.{arith}
-use Rattle.std.proofs.Common.{rules}
 use Rattle.bits.proofs.Fields.{field_32}
 use Rattle.bits.proofs.be32.Goals as goal
 

@@ -3,7 +3,6 @@ use mathlib.Core.Path.{◌≡◌, refl, sym, ap, ◌∙◌}
 use Prim.Native.Nat.{ℕ, ◌+◌, ◌-◌, ◌*◌, ◌/◌, ◌^◌}
 use native.Mathlib.Omega.{arith}
 use lib.ListN.{length}
-use Rattle.std.proofs.Common.{rules}
 use Rattle.bits.specs.Field.{pack, half_nines}
 use Rattle.bits.proofs.Within.{within_length}
 use Rattle.bits.proofs.Layouts.{length_pack}

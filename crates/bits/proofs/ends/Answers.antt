@@ -5,7 +5,6 @@ use native.Mathlib.Nat.{one-mul}
 use native.Mathlib.Omega.{arith}
 use lib.ListN.{length}
 use lib.Pow.{shl_exact, pow_pos}
-use Rattle.std.proofs.Common.{rules}
 use Rattle.bits.specs.Field.{pack, half_nines}
 use Rattle.bits.proofs.Within.{within_length}
 use Rattle.bits.proofs.Layouts.{length_pack}

@@ -4,7 +4,6 @@ use Prim.Native.Nat.{ℕ, ◌+◌, ◌-◌, ◌*◌, ◌%◌, ◌^◌, ◌<◌}
 use native.Mathlib.Omega.{arith}
 use lib.ListN.{length, get_or}
 use lib.Pow.{shl_exact}
-use Rattle.std.proofs.Common.{rules}
 use Rattle.bits.specs.Field.{field, pack, half_nines}
 use Rattle.bits.proofs.Layouts.{length_pack, pack_bytes}
 use Rattle.bits.proofs.Fields.{field_lt, field-join, byte}

@@ -4,7 +4,6 @@ use mathlib.Core.List.{[], ◌∷◌}
 use Prim.Native.Nat.{ℕ}
 use native.Mathlib.Omega.{arith}
 use lib.ListN.{length-set}
-use Rattle.std.proofs.Common.{rules}
 use Rattle.bits.specs.Field.{splice}
 use Rattle.bits.proofs.Splice.{put_2}
 use Rattle.bits.proofs.put16.Goals as goal

@@ -4,7 +4,6 @@ use mathlib.Core.List.{List, [], ◌∷◌, ◌++◌}
 use Prim.Native.Nat.{ℕ}
 use native.Mathlib.Omega.{arith}
 use lib.ListN.{length-set}
-use Rattle.std.proofs.Common.{rules}
 use Rattle.bits.specs.Field.{splice}
 use Rattle.bits.proofs.Splice.{put_4}
 use Rattle.bits.proofs.put32.Goals as goal

@@ -1,12 +1,11 @@
 -- `put_half` splices in the packed numbers: after j turns the first j of their bytes are pasted in.
 use mathlib.Core.Path.{◌≡◌, refl, sym, ap, ap₂, ◌∙◌}
 use mathlib.Core.List.{List}
-use Prim.Native.Nat.{ℕ, ◌+◌, ◌-◌, ◌≤◌}
+use Prim.Native.Nat.{ℕ, ◌+◌}
 use native.Mathlib.Numerals.{add-one}
 use native.Mathlib.Omega.{arith}
 use lib.ListN.{length, set, length-set}
 use lib.Seq.{paste, paste-zero, paste-suc}
-use Rattle.std.proofs.Common.{rules}
 use Rattle.bits.specs.Field.{pack, half_nines}
 use Rattle.bits.proofs.Layouts.{length_pack}
 use Rattle.bits.proofs.Splice.{paste_splice}

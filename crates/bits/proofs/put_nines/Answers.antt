@@ -5,7 +5,6 @@ use Prim.Native.Nat.{ℕ, ◌+◌}
 use native.Mathlib.Omega.{arith}
 use lib.ListN.{length, take, drop}
 use lib.Seq.{take_all, take-add}
-use Rattle.std.proofs.Common.{rules}
 use Rattle.bits.specs.Field.{pack, splice, nines, half_nines, Within}
 use Rattle.bits.proofs.Within.{within_length, within_take, within_drop}
 use Rattle.bits.proofs.Layouts.{length_pack}

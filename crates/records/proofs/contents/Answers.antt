@@ -5,7 +5,6 @@ use mathlib.Core.Path.{◌≡◌, ap, ◌∙◌}
 use Prim.Native.Nat.{ℕ, ◌+◌, ◌-◌, ◌*◌}
 use native.Mathlib.Omega.{arith}
 use Rattle.paper.specs.Bytes.{slot_from}
-use Rattle.std.proofs.Common.{rules}
 use Rattle.records.proofs.contents.Goals as goal
 
 pub returns : goal.returns

@@ -3,7 +3,6 @@ use mathlib.Core.Path.{◌∙◌}
 use lib.ListN.{take}
 use lib.Seq.{length-take-le}
 use Rattle.records.proofs.Read.{control_fields}
-use Rattle.std.proofs.Common.{rules}
 use Rattle.records.proofs.control.Goals as goal
 
 pub returns : goal.returns

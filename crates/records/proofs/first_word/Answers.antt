@@ -2,7 +2,6 @@
 use mathlib.Core.Path.{ap}
 use native.Mathlib.Omega.{arith}
 use Rattle.paper.specs.Bytes.{bit}
-use Rattle.std.proofs.Common.{rules}
 use Rattle.records.proofs.first_word.Goals as goal
 
 pub returns-then-used : goal.returns-then-used

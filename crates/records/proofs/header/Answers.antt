@@ -4,7 +4,6 @@ use Prim.Native.Nat.{ℕ, ◌+◌, ◌-◌, ◌*◌}
 use native.Mathlib.Omega.{arith}
 use lib.ListN.{take, drop}
 use Rattle.paper.specs.Bytes.{header_from}
-use Rattle.std.proofs.Common.{rules}
 use Rattle.records.proofs.header.Goals as goal
 
 pub returns : goal.returns

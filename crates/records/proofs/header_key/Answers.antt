@@ -5,7 +5,6 @@ use native.Mathlib.Omega.{arith}
 use lib.ListN.{take, drop}
 use Rattle.paper.specs.Bytes.{header_from}
 use Rattle.records.specs.Fits.{key_of}
-use Rattle.std.proofs.Common.{rules}
 use Rattle.records.proofs.header_key.Goals as goal
 
 pub returns : goal.returns

@@ -5,7 +5,6 @@ use native.Mathlib.Omega.{arith}
 use lib.ListN.{take, drop}
 use Rattle.paper.specs.Bytes.{header_from}
 use Rattle.records.specs.Fits.{in_use_as}
-use Rattle.std.proofs.Common.{rules}
 use Rattle.records.proofs.in_use_as.Goals as goal
 
 pub returns : goal.returns

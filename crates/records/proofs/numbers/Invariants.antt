@@ -1,14 +1,8 @@
-use mathlib.Core.Path.{◌≡◌, refl, sym, ap, ap₂, ◌∙◌}
-use mathlib.Core.List.{List, ◌++◌, append-nil}
-use Prim.Native.Nat.{ℕ, ◌-◌, ◌≤◌, ◌<◌}
-use native.Mathlib.Omega.{arith}
-use lib.ListN.{length, take, drop, set, replicate, length-map, get_or-map}
-use lib.Seq.{take_all}
-use Rattle.bits.proofs.Fill.{fill_suc}
-use Rattle.paper.specs.declared.PageId.{PageId}
-use Rattle.paper.specs.Ids.{page_id}
+use mathlib.Core.Path.{◌≡◌}
+use mathlib.Core.List.{◌++◌}
+use Prim.Native.Nat.{◌-◌, ◌≤◌}
+use lib.ListN.{take, drop}
 use Rattle.paper.specs.Bytes.{ids_of}
-use Rattle.std.proofs.Common.{rules}
 use Rattle.records.proofs.numbers.Given as goal
 
 abbrev pub invariant-loop-k : goal.invariant-loop-k

@@ -8,7 +8,6 @@ use Rattle.bits.proofs.Within.{within_head, within_tail}
 use Rattle.bits.proofs.Layouts.{length_pack}
 use Rattle.paper.specs.Bytes.{bit, ids_of}
 use Rattle.records.proofs.Write.{header_parts_lem, three_parts}
-use Rattle.std.proofs.Common.{rules}
 use Rattle.records.proofs.pack_header.Goals as goal
 
 pub pack_name-requires : goal.pack_name-requires

@@ -5,7 +5,6 @@ use native.Mathlib.Omega.{arith}
 use Rattle.bits.specs.Field.{be, splice}
 use Rattle.bits.proofs.Splice.{splice-splice}
 use Rattle.paper.specs.Bytes.{bit}
-use Rattle.std.proofs.Common.{rules}
 use Rattle.records.proofs.pack_name.Goals as goal
 
 pub returns : goal.returns

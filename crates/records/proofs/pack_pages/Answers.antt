@@ -4,7 +4,6 @@ use mathlib.Core.List.{List}
 use Prim.Native.Nat.{ℕ}
 use native.Mathlib.Omega.{arith}
 use Rattle.bits.specs.Field.{pack, splice, nines, Within}
-use Rattle.std.proofs.Common.{rules}
 use Rattle.records.proofs.pack_pages.Goals as goal
 
 pub put_nines-requires : goal.put_nines-requires

@@ -1,6 +1,6 @@
 -- `pack_slot` writes the head and copies the contents behind it.
 use mathlib.Core.Path.{sym, ap, ◌∙◌}
-use Prim.Native.Nat.{ℕ, ◌+◌, ◌*◌, ◌^◌, ◌<◌}
+use Prim.Native.Nat.{ℕ, ◌+◌, ◌*◌}
 use Rattle.bits.specs.Field.{be, splice}
 use Rattle.paper.specs.Bytes.{bit}
 use Rattle.records.specs.Fits.{slot_with}

@@ -4,7 +4,6 @@ use mathlib.Core.List.{◌++◌}
 use native.Mathlib.Omega.{arith}
 use Rattle.bits.specs.Field.{be, splice}
 use Rattle.bits.proofs.Splice.{splice-splice}
-use Rattle.std.proofs.Common.{rules}
 use Rattle.records.proofs.pack_times.Goals as goal
 
 pub returns : goal.returns

@@ -10,7 +10,6 @@ use Rattle.bits.proofs.Splice.{splice_part}
 use Rattle.paper.specs.Stores.{expiring}
 use Rattle.paper.specs.Bytes.{slot_bytes, slot_from}
 use Rattle.records.proofs.Records.{slot_long}
-use Rattle.std.proofs.Common.{rules}
 use Rattle.records.proofs.put_expires.Goals as goal
 
 pub returns : goal.returns

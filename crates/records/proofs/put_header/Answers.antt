@@ -7,7 +7,6 @@ use borrow.Rule.Slice.PartMut.{put_mid}
 use Rattle.bits.proofs.Layouts.{length_pack}
 use Rattle.bits.proofs.Splice.{splice_part}
 use Rattle.paper.specs.Bytes.{header_layout, header_values, header_bytes}
-use Rattle.std.proofs.Common.{rules}
 use Rattle.records.proofs.put_header.Goals as goal
 
 pub returns : goal.returns

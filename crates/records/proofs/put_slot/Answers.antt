@@ -8,7 +8,6 @@ use borrow.Rule.Slice.PartMut.{put_mid}
 use Rattle.bits.proofs.Splice.{splice_part}
 use Rattle.paper.specs.Bytes.{slot_bytes}
 use Rattle.records.specs.Fits.{slot_with}
-use Rattle.std.proofs.Common.{rules}
 use Rattle.records.proofs.put_slot.Goals as goal
 
 pub returns : goal.returns

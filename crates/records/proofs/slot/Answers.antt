@@ -5,7 +5,6 @@ use native.Mathlib.Omega.{arith}
 use lib.ListN.{take, drop}
 use Rattle.paper.specs.Bytes.{slot_from}
 use Rattle.records.specs.Fits.{head_of}
-use Rattle.std.proofs.Common.{rules}
 use Rattle.records.proofs.slot.Goals as goal
 
 pub returns : goal.returns

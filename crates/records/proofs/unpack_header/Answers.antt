@@ -3,7 +3,6 @@ use mathlib.Core.Path.{sym, ap, ◌∙◌}
 use native.Mathlib.Omega.{arith}
 use Rattle.paper.specs.declared.Header.{Header}
 use Rattle.records.proofs.Read.{header_fields, word_used, word_number}
-use Rattle.std.proofs.Common.{rules}
 use Rattle.records.proofs.unpack_header.Goals as goal
 
 pub returns : goal.returns

@@ -3,7 +3,6 @@ use mathlib.Core.Path.{ap, ◌∙◌}
 use native.Mathlib.Omega.{arith}
 use Rattle.records.specs.Fits.{key_of}
 use Rattle.records.proofs.Read.{header_fields, word_used}
-use Rattle.std.proofs.Common.{rules}
 use Rattle.records.proofs.unpack_key.Goals as goal
 
 pub returns : goal.returns

@@ -1,7 +1,7 @@
 -- `unpack_pages` fills the array with the sixteen nine-bit fields: after k turns the first k are there.
 use mathlib.Core.Path.{◌≡◌, refl, ap, ap₂, ◌∙◌}
 use mathlib.Core.List.{List, ◌++◌}
-use Prim.Native.Nat.{ℕ, ◌-◌, ◌≤◌, ◌<◌}
+use Prim.Native.Nat.{ℕ, ◌<◌}
 use native.Mathlib.Omega.{arith}
 use lib.ListN.{get_or, take, drop, set, replicate}
 use Rattle.bits.proofs.Fill.{fill_suc}
@@ -9,7 +9,6 @@ use Rattle.paper.specs.declared.Header.{Header}
 use Rattle.paper.specs.declared.PageId.{PageId}
 use Rattle.paper.specs.Ids.{page_id}
 use Rattle.records.proofs.Read.{header_fields, pages_in, page_at_lem}
-use Rattle.std.proofs.Common.{rules}
 use Rattle.records.proofs.unpack_pages.Goals as goal
 
 pub loop-k-init : goal.loop-k-init

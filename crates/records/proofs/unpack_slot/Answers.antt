@@ -5,7 +5,6 @@ use lib.ListN.{length, take}
 use lib.Seq.{length-take-le}
 use Rattle.records.specs.Fits.{head_of}
 use Rattle.records.proofs.Read.{slot_fields, word_used, word_number}
-use Rattle.std.proofs.Common.{rules}
 use Rattle.records.proofs.unpack_slot.Goals as goal
 
 pub returns : goal.returns

@@ -1,5 +1,4 @@
 -- `word_is` goes by the first word: in use is its first bit, the id the 31 after it.
-use Rattle.std.proofs.Common.{rules}
 use Rattle.records.proofs.Read.{large_unused, whole_word}
 use Rattle.records.proofs.word_is.Goals as goal
 

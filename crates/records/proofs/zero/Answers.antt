@@ -1,12 +1,11 @@
 -- `zero` writes a zero at each index: after i turns the first i are zero.
-use Prim.Native.Nat.{ℕ, ◌≤◌, ◌<◌, ◌-◌}
+use Prim.Native.Nat.{ℕ, ◌<◌}
 use mathlib.Core.Path.{◌≡◌, refl, ap, ◌∙◌}
-use mathlib.Core.List.{List, ◌++◌, append-nil}
+use mathlib.Core.List.{List, append-nil}
 use native.Mathlib.Omega.{arith}
 use borrow.Author.Fill.{fill_more}
-use lib.ListN.{length, drop, replicate, set, length-set}
+use lib.ListN.{length, replicate, set, length-set}
 use lib.Seq.{drop-length}
-use Rattle.std.proofs.Common.{rules}
 use Rattle.records.proofs.zero.Goals as goal
 
 pub loop-i-init : goal.loop-i-init

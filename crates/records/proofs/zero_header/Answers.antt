@@ -7,7 +7,6 @@ use lib.ListN.{length, take, drop, replicate, length-drop}
 use lib.Seq.{length-take-le}
 use borrow.Rule.Slice.PartMut.{put_mid}
 use Rattle.bits.proofs.Splice.{splice_part}
-use Rattle.std.proofs.Common.{rules}
 use Rattle.records.proofs.zero_header.Goals as goal
 
 pub returns : goal.returns

@@ -31,20 +31,20 @@ loop-n-preserved c =
     let told = sym h.ensures.value in
     let long = h.auto.seen ∙ l.invariant.2 in
     elim c.match-header_sound.branch [
-    in-Empty w ↦ (
-      omega arith,
-      omega arith,
-      long,
-      ap length w.ids-is ∙ l.invariant.3,
-      rw (w.ids-is, w.count-is) (gather_empty l.invariant.4 l.invariant.0 (in_table t) _ (told ∙ w.in-Empty.is) h.ensures.marks),
-    )
-    | in-Named w ↦ (
-      omega arith,
-      omega arith,
-      long,
-      ap length w.ids-is ∙ simp length-set l.invariant.3,
-      rw (w.ids-is, w.count-is) (gather_named l.invariant.4 l.invariant.0 (in_table t) _ _ (told ∙ w.in-Named.is) h.ensures.marks (omega (arith, l.invariant.4.few))),
-    )
+      | in-Empty w ↦ (
+        omega arith,
+        omega arith,
+        long,
+        ap length w.ids-is ∙ l.invariant.3,
+        rw (w.ids-is, w.count-is) (gather_empty l.invariant.4 l.invariant.0 (in_table t) _ (told ∙ w.in-Empty.is) h.ensures.marks),
+      )
+      | in-Named w ↦ (
+        omega arith,
+        omega arith,
+        long,
+        ap length w.ids-is ∙ simp length-set l.invariant.3,
+        rw (w.ids-is, w.count-is) (gather_named l.invariant.4 l.invariant.0 (in_table t) _ _ (told ∙ w.in-Named.is) h.ensures.marks (omega (arith, l.invariant.4.few))),
+      )
     ]
 
 pub returns : goal.returns

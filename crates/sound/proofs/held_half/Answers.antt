@@ -60,16 +60,16 @@ loop-k-preserved c =
     let l = c.loop-k in
     let i = l.invariant.2 in
     elim c.if-n-ne0.branch [
-    then-n-ne0 w ↦ (
-      omega arith,
-      ap length w.seen-is ∙ simp length-set l.invariant.1,
-      rw (w.seen-is, w.good-is) (walk_id i (index t) (here t) (at t) (omega arith) _ _ w.page_held-held.ensures refl),
-    )
-    | else-n-ne0 w ↦ (
-      omega arith,
-      ap length w.seen-is ∙ l.invariant.1,
-      rw (w.seen-is, w.good-is) (walk_null i (index t) (here t) (at t) w.if-n-ne0.false (held_null _ _ _ _ w.if-n-ne0.false)),
-    )
+      | then-n-ne0 w ↦ (
+        omega arith,
+        ap length w.seen-is ∙ simp length-set l.invariant.1,
+        rw (w.seen-is, w.good-is) (walk_id i (index t) (here t) (at t) (omega arith) _ _ w.page_held-held.ensures refl),
+      )
+      | else-n-ne0 w ↦ (
+        omega arith,
+        ap length w.seen-is ∙ l.invariant.1,
+        rw (w.seen-is, w.good-is) (walk_null i (index t) (here t) (at t) w.if-n-ne0.false (held_null _ _ _ _ w.if-n-ne0.false)),
+      )
     ]
 
 pub returns : goal.returns

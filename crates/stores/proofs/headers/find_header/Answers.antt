@@ -1,7 +1,6 @@
 -- `find_header` looks at the slots in order: whenever the test is reached, the search from n on is the whole search.
 use mathlib.Core.Path.{sym, ◌∙◌}
 use native.Mathlib.Omega.{arith}
-use Rattle.paper.specs.Stores.{has_id}
 use Rattle.stores.proofs.HeaderSlots.{slot_passes, slot_fails, slots_end}
 use Rattle.stores.proofs.headers.find_header.Goals as goal
 

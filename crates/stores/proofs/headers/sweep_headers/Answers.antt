@@ -17,7 +17,7 @@ loop-n-preserved c =
     let r = c.expired_header.ensures in
     let whole = l.invariant.2 ∙ c.requires in
     elim c.if-expired_header.branch [
-      then-expired_header w ↦ (
+      | then-expired_header w ↦ (
         omega arith,
         omega arith,
         omega (arith, ap length w.headers-is),

@@ -34,7 +34,7 @@ loop-n-preserved c =
     let r = c.expired_slot.ensures in
     let g = whole _ _ _ _ c.requires l.invariant.2 in
     elim c.if-expired_slot.branch [
-      then-expired_slot w ↦ (
+      | then-expired_slot w ↦ (
         omega arith,
         omega arith,
         omega (arith, ap length w.pages-is),
