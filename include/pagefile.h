@@ -1,5 +1,5 @@
 /*
- * The proved PageFile service. Link with libpagefile.a, which `rt staticlib pagefile` writes to target/staticlib/.
+ * The proved PageFile service. Link with libpagefile.a, which `./library` writes to target/staticlib/.
  *
  * All memory is the caller's: each buffer is a pointer and its length, buffers of one call must not overlap, and
  * nothing beyond them is touched. The tables may hold any bytes: what is not sound is answered Damaged and left alone.

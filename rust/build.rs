@@ -42,15 +42,13 @@ fn folder() -> Result<PathBuf, String> {
 
 /// Proves the library and writes its archive.
 fn prove(root: &Path) -> Result<(), String> {
-    let run = Command::new("rt")
-        .args(["staticlib", "pagefile"])
-        .current_dir(root)
+    let run = Command::new(root.join("library"))
         // cargo reads this script's own output
         .stdout(io::stderr())
         .status();
     match run {
         Ok(status) if status.success() => Ok(()),
-        Ok(status) => Err(format!("`rt staticlib pagefile` failed ({status}): run it in the repository's root to see why")),
-        Err(error) => Err(format!("{ARCHIVE} is not built and `rt` cannot be run ({error}): put the Rattle kit's `rt` on the path, or name the archive's folder in PAGEFILE_LIB_DIR")),
+        Ok(status) => Err(format!("`./library` failed ({status}): run it in the repository's root to see why")),
+        Err(error) => Err(format!("{ARCHIVE} is not built and `./library` cannot be run ({error}): run it in the repository's root, or name the archive's folder in PAGEFILE_LIB_DIR")),
     }
 }

@@ -13,7 +13,7 @@ fn main() {
     println!("cargo:rerun-if-env-changed=PAGEFILE_LIB_DIR");
     println!("cargo:rerun-if-changed={}", archive.display());
     if !archive.exists() {
-        eprintln!("no libpagefile.a: run `rt staticlib pagefile` at the repository's root");
+        eprintln!("no libpagefile.a: run `./library` at the repository's root");
         std::process::exit(1);
     }
     println!("cargo:rustc-link-search=native={}", directory.display());

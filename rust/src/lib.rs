@@ -41,7 +41,7 @@
 //!
 //! The requests are carried out by `libpagefile.a`, whose functions are proved to meet their contracts. The build script
 //! takes it from the folder named in `PAGEFILE_LIB_DIR` (an absolute path), or from the repository's `target/staticlib/`,
-//! or has `rt staticlib pagefile` build it there. This crate only hands the buffers over; its `unsafe` is in one module.
+//! or has the repository's `./library` build it there. This crate only hands the buffers over; its `unsafe` is in one module.
 
 #![deny(missing_docs)]
 #![deny(unsafe_code)]
