@@ -30,7 +30,6 @@ SPECIAL = {
     "in-headers": "in_headers_lem",
     "on-headers": "on_headers_lem",
     "on-pages": "on_pages_lem",
-    "an-id": "an_id_lem",
     "header-step": "header_step_lem",
     "page-shown": "page_shown_lem",
     "pages-in": "pages_in_lem",

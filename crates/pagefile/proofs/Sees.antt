@@ -22,13 +22,13 @@ sees f a r l page headers pages e s = ap (λ (q : _). seen q page headers pages)
 
 -- what an answer gives: an id, Info's fields, counts, or a refusal's number
 data Form (a : Answer) : Type 0 where
-  an_id_lem : (i : FileId) → a ≡ Success i → Form a
+  an_id : (i : FileId) → a ≡ Success i → Form a
   facts : (f : Facts) → a ≡ Told f → Form a
   counts : (c : Swept) → a ≡ Counted c → Form a
   none : (n : ℕ) → report a ≡ refused n → Form a
 
 form : (a : Answer) → Form a
-form (Success i) = an_id_lem i refl
+form (Success i) = an_id i refl
 form (Told f) = facts f refl
 form (Counted c) = counts c refl
 form BadCall = none 1 refl
@@ -50,7 +50,7 @@ pub no_id : (a : Answer) → OneOf (1 ∷ 2 ∷ refusals) (tag_of the_type a) �
 no_id a h = go (form a)
   where
     go : Form a → (report a).id ≡ null_id
-    go (an_id_lem i e) = absurd (miss (1 ∷ 2 ∷ refusals) 0 tt (rw e at h))
+    go (an_id i e) = absurd (miss (1 ∷ 2 ∷ refusals) 0 tt (rw e at h))
     go (facts f e) = rw e
     go (counts c e) = rw e
     go (none n e) = rw e
@@ -59,7 +59,7 @@ pub no_facts_lem : (a : Answer) → OneOf (0 ∷ 2 ∷ refusals) (tag_of the_typ
 no_facts_lem a h = go (form a)
   where
     go : Form a → (report a).facts ≡ no_facts
-    go (an_id_lem i e) = rw e
+    go (an_id i e) = rw e
     go (facts f e) = absurd (miss (0 ∷ 2 ∷ refusals) 1 tt (rw e at h))
     go (counts c e) = rw e
     go (none n e) = rw e
@@ -68,7 +68,7 @@ pub no_counts_lem : (a : Answer) → OneOf (0 ∷ 1 ∷ refusals) (tag_of the_ty
 no_counts_lem a h = go (form a)
   where
     go : Form a → (report a).swept ≡ no_counts
-    go (an_id_lem i e) = rw e
+    go (an_id i e) = rw e
     go (facts f e) = rw e
     go (counts c e) = absurd (miss (0 ∷ 1 ∷ refusals) 2 tt (rw e at h))
     go (none n e) = rw e

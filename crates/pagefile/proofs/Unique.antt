@@ -1,4 +1,4 @@
--- No second answer, no second final table and no second lent page meets an export's contract: `Learnt` is the contract as a caller may use it,
+-- No second answer, no second final table and no second lent page meets a function's contract: `Learnt` is the contract as a caller may use it,
 -- a the arguments, r the answer, s the buffers at exit. A struct is equal in every field.
 -- Assumes nothing.
 use Prim.Native.Nat.{ℕ}

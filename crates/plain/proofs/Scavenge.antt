@@ -101,8 +101,8 @@ sweeps_headers j t f c x = (record { facts = swept_facts b t hs f sw; view = swe
 -- a slot that a live header names is not expired
 held_stays : (b : Bank) (c : ℕ) (s : Slot) (e : ℕ) → Backs s e → c < e → cond (slot_expired c s) (no_slot b) s ≡ s
 held_stays b c s e k lt =
-    let no-expiry : slot_expired c s ≡ false = rw k.used (lt-leb s.expires c (omega (arith, k.long))) in
-    rw no-expiry
+    let no_expiry : slot_expired c s ≡ false = rw k.used (lt-leb s.expires c (omega (arith, k.long))) in
+    rw no_expiry
 
 sweeps_pages : (j : Job) → Keeps j (on_pages (scavenge_pages j.bank j.now)) Anything (λ n. Anything)
 unfolding scavenge_pages in_pages

@@ -42,7 +42,7 @@ pub fn set_clock(headers: &mut [u8], time: u32)
 pub fn open(headers: &mut [u8], outcomes: &[u8], time: u32, client: u16, id: FileId) -> Step
     requires { (length headers.old ≡ headers_length) × (length outcomes.now ≡ 18) }
     ensures headers_after { hs_from headers.new ≡ clocked time (hs_from headers.old) }
-    ensures ps_after { (ps : PS) → settle result (standing 1 false (hs_from headers.new) ps) ≡ opening time client id outcomes.now (standing 0 false (hs_from headers.new) ps) }
+    ensures steps { (ps : PS) → settle result (standing 1 false (hs_from headers.new) ps) ≡ opening time client id outcomes.now (standing 0 false (hs_from headers.new) ps) }
 {
     set_clock(headers, time);
     let found = stores::headers::read_header(headers, outcomes[0], time, id);

@@ -136,7 +136,7 @@ module _ (b : Bank) (t : Tables) where
 
     pub all_rules : s1 t.hs ≡ true → s3 t.ps ≡ true → all_pass b c t.ps seen hs && distinct (ids_in_use hs) ≡ sound b t
     unfolding sound s2
-    all_rules s1 s3 =
+    all_rules e1 e3 =
         ap (λ (s : Bool). s && distinct (ids_in_use hs)) headers_apart
         ∙ rules_join (all (header_sound b c) hs) (s4 b t) (s5 t.hs) (distinct (ids_in_use hs))
-        ∙ ap₂ (λ (p q : Bool). p && (all (header_sound b c) hs && distinct (ids_in_use hs)) && q && s4 b t && s5 t.hs) (sym s1) (sym s3)
+        ∙ ap₂ (λ (p q : Bool). p && (all (header_sound b c) hs && distinct (ids_in_use hs)) && q && s4 b t && s5 t.hs) (sym e1) (sym e3)

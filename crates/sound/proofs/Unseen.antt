@@ -94,10 +94,10 @@ unfolding unseen unmarked is_marked mark in_map
 unseen_apart n [] seen l e = refl
 unseen_apart n (zero ∷ xs) seen l e = absurd (let z : ◌≡◌ {A = ℕ} 0 1 = cc in omega arith)
 unseen_apart n (suc k ∷ xs) seen l e =
-    let in-range = both (ltb k n) (all (in_map n) xs) e in
-    let h : k < length seen = omega (arith, ltb-true k n in-range.0) in
+    let in_range = both (ltb k n) (all (in_map n) xs) e in
+    let h : k < length seen = omega (arith, ltb-true k n in_range.0) in
     ap (λ (t : Bool). not (get_or seen k false) && t)
-    (unseen_apart n xs (set seen k true) (length-set seen k true ∙ l) in-range.1 ∙ ap (λ (t : Bool). t && distinct xs) (mark_others seen k h xs))
+    (unseen_apart n xs (set seen k true) (length-set seen k true ∙ l) in_range.1 ∙ ap (λ (t : Bool). t && distinct xs) (mark_others seen k h xs))
     ∙ first_joins (not (get_or seen k false)) (absent (suc k) xs) (all (unmarked seen) xs) (distinct xs)
 
 none_marked : (n k : ℕ) → get_or (replicate n false) k false ≡ false

@@ -203,7 +203,7 @@ fn named_sound(
     requires headers_len { (length headers.now ≡ headers_length) × (1 ≤ n) × (n ≤ header_slots) }
     requires geometry { Geometry slots size pages.now }
     requires slots_in_bounds { slots ≤ length seen.old }
-    requires n_value { (header_at (hs_from headers.now) n).used ≡ true }
+    requires in_use { (header_at (hs_from headers.now) n).used ≡ true }
     ensures value { result ≡ told (passes (bank slots size) c (ps_from (bank slots size) pages.now) seen.old (header_at (hs_from headers.now) n)) (header_at (hs_from headers.now) n) }
     ensures marks { seen.new ≡ seen_after (bank slots size) c seen.old (header_at (hs_from headers.now) n) }
 {

@@ -74,10 +74,10 @@ module _ (t : ℕ) (id : FileId) (xs : List ℕ) (n : ℕ) (lo : 1 ≤ n) (hi : 
   pub named_has : (k : HeaderKey) → in_use_as id record_at ≡ true → k ≡ key_of record_at → ltb t k.expires ≡ has_id t id (header_at (hs_from xs) n)
   named_has k e q =
       let in_use = left record_at.used (eqb record_at.id.0 id.0) e in
-      let its-id = right record_at.used (eqb record_at.id.0 id.0) e in
+      let its_id = right record_at.used (eqb record_at.id.0 id.0) e in
       ap (λ (h : HeaderKey). ltb t h.expires) q
       ∙ sym (and-true (ltb t record_at.expires))
-      ∙ ap₂ (λ (u i : Bool). (u && ltb t record_at.expires) && i) (sym in_use) (sym its-id)
+      ∙ ap₂ (λ (u i : Bool). (u && ltb t record_at.expires) && i) (sym in_use) (sym its_id)
       ∙ ap (has_id t id) (sym (header_place xs n lo hi))
 
   pub other_has_not : in_use_as id record_at ≡ false → false ≡ has_id t id (header_at (hs_from xs) n)

@@ -119,8 +119,8 @@ pub fn read_page(
 ) -> Step
     requires geometry { Geometry slots size pages.now }
     requires le_id { (1 ≤ id.0) × (id.0 ≤ slots) × (length lent.old ≡ size) }
-    ensures pages_value { done result (ps_from (bank slots size) pages.now) ≡ attempt outcome (read_page id) (ps_from (bank slots size) pages.now) }
-    ensures lent { lent.new ≡ lent_after result (slot_at (bank slots size) (ps_from (bank slots size) pages.now) id).contents lent.old }
+    ensures step { done result (ps_from (bank slots size) pages.now) ≡ attempt outcome (read_page id) (ps_from (bank slots size) pages.now) }
+    ensures lent_page { lent.new ≡ lent_after result (slot_at (bank slots size) (ps_from (bank slots size) pages.now) id).contents lent.old }
 {
     match outcome {
         0 => {

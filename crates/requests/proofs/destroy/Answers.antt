@@ -16,16 +16,16 @@ use Rattle.requests.proofs.destroy.Goals.{In-Gone}
 use Rattle.requests.proofs.destroy.Goals as goal
 
 pub ended-requires : goal.ended-requires
-ended-requires c = opened_told _ _ _ _ _ [] _ (c.open-first.ensures.ps_after [])
+ended-requires c = opened_told _ _ _ _ _ [] _ (c.open-first.ensures.steps [])
 
 pub returns-in_default : goal.returns-in_default
 returns-in_default c =
     let o = c.open-first.ensures in
-    destroy_stops _ _ _ _ _ _ _ _ _ o.headers_after (o.ps_after _) c.ended.result (search rules) c.ended.ensures
+    destroy_stops _ _ _ _ _ _ _ _ _ o.headers_after (o.steps _) c.ended.result (search rules) c.ended.ensures
 
 -- the header was opened in slot n
 here : (c : In-Gone) → (1 ≤ c.in-Gone.n) × (c.in-Gone.n ≤ header_slots)
-here c = opened_slot _ _ _ _ _ [] _ (c.open-first.ensures.ps_after []) _ c.in-Gone.is
+here c = opened_slot _ _ _ _ _ [] _ (c.open-first.ensures.steps []) _ c.in-Gone.is
 
 pub header-h-requires : goal.header-h-requires
 header-h-requires c = let i = here (goal.at.header-h-requires c).In-Gone in omega arith
@@ -41,7 +41,7 @@ ended-requires-in_default-second c = tells _ _ _ _ _ (destroy_refuses _ _) c.des
 pub returns-in_default-second : goal.returns-in_default-second
 returns-in_default-second c =
     let o = c.open-first.ensures in
-    destroy_stops_second _ _ _ _ _ _ _ _ _ o.headers_after (o.ps_after _) _ _ c.in-Gone.is (at_slot _ _ _ (here (goal.at.returns-in_default-second c).In-Gone) c.header-h.ensures) _ _ c.destroy_header-second.ensures
+    destroy_stops_second _ _ _ _ _ _ _ _ _ o.headers_after (o.steps _) _ _ c.in-Gone.is (at_slot _ _ _ (here (goal.at.returns-in_default-second c).In-Gone) c.header-h.ensures) _ _ c.destroy_header-second.ensures
     c.ended-in_default-second.result (search rules) c.ended-in_default-second.ensures
 
 pub each_page-row-requires : goal.each_page-row-requires
@@ -59,11 +59,11 @@ ended-requires-in_default-last c = deeds_told _ _ _ _ _ _ _ _ (c.each_page-row.e
 pub returns-in_default-last : goal.returns-in_default-last
 returns-in_default-last c =
     let o = c.open-first.ensures in
-    destroy_stops_third _ _ _ _ _ _ _ _ _ o.headers_after (o.ps_after _) _ _ c.in-Gone.is (at_slot _ _ _ (here (goal.at.returns-in_default-last c).In-Gone) c.header-h.ensures) _ _ c.destroy_header-second.ensures
+    destroy_stops_third _ _ _ _ _ _ _ _ _ o.headers_after (o.steps _) _ _ c.in-Gone.is (at_slot _ _ _ (here (goal.at.returns-in_default-last c).In-Gone) c.header-h.ensures) _ _ c.destroy_header-second.ensures
     _ c.in-Gone-second.is _ _ _ c.each_page-row.ensures.1 c.ended-in_default-last.result (search rules) c.ended-in_default-last.ensures
 
 pub returns : goal.returns
 returns c =
     let o = c.open-first.ensures in
-    destroy_ends _ _ _ _ _ _ _ _ _ o.headers_after (o.ps_after _) _ _ c.in-Gone.is (at_slot _ _ _ (here (goal.at.returns c).In-Gone) c.header-h.ensures) _ _ c.destroy_header-second.ensures
+    destroy_ends _ _ _ _ _ _ _ _ _ o.headers_after (o.steps _) _ _ c.in-Gone.is (at_slot _ _ _ (here (goal.at.returns c).In-Gone) c.header-h.ensures) _ _ c.destroy_header-second.ensures
     _ c.in-Gone-second.is _ _ _ c.each_page-row.ensures.1 _ c.in-Gone-last.is

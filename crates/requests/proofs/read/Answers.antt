@@ -39,16 +39,16 @@ read_page-second-requires c =
     }
 
 pub ended-requires-in_default-second : goal.ended-requires-in_default-second
-ended-requires-in_default-second c = tells _ _ _ _ _ (read_page_refuses _ _) c.read_page-second.ensures.pages_value
+ended-requires-in_default-second c = tells _ _ _ _ _ (read_page_refuses _ _) c.read_page-second.ensures.step
 
 pub returns-in_default-second : goal.returns-in_default-second
 returns-in_default-second c =
     read_stops_later _ _ _ _ _ _ _ _ _ _ c.set_clock.ensures c.read_header-first.ensures _ _ _ c.in-Gone.is
-    (at_slot _ _ _ (here (goal.at.returns-in_default-second c).In-Gone) c.header-h.ensures) c.page_of-p.ensures c.if-p-eq0.false _ c.read_page-second.ensures.pages_value _ c.read_page-second.ensures.lent
+    (at_slot _ _ _ (here (goal.at.returns-in_default-second c).In-Gone) c.header-h.ensures) c.page_of-p.ensures c.if-p-eq0.false _ c.read_page-second.ensures.step _ c.read_page-second.ensures.lent_page
     c.ended-in_default-second.result (search rules) c.ended-in_default-second.ensures
 
 pub returns : goal.returns
 returns c =
     read_reads _ _ _ _ _ _ _ _ _ _ c.set_clock.ensures c.read_header-first.ensures _ _ _ c.in-Gone.is
-    (at_slot _ _ _ (here (goal.at.returns c).In-Gone) c.header-h.ensures) c.page_of-p.ensures c.if-p-eq0.false _ c.read_page-second.ensures.pages_value _ c.read_page-second.ensures.lent
+    (at_slot _ _ _ (here (goal.at.returns c).In-Gone) c.header-h.ensures) c.page_of-p.ensures c.if-p-eq0.false _ c.read_page-second.ensures.step _ c.read_page-second.ensures.lent_page
     _ c.in-Gone-second.is

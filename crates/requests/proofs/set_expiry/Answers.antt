@@ -13,16 +13,16 @@ use Rattle.requests.proofs.set_expiry.Goals.{In-Gone}
 use Rattle.requests.proofs.set_expiry.Goals as goal
 
 pub ended-requires : goal.ended-requires
-ended-requires c = opened_told _ _ _ _ _ [] _ (c.open-first.ensures.ps_after [])
+ended-requires c = opened_told _ _ _ _ _ [] _ (c.open-first.ensures.steps [])
 
 pub returns-in_default : goal.returns-in_default
 returns-in_default c =
     let o = c.open-first.ensures in
-    set_expiry_stops _ _ _ _ _ _ _ _ _ _ o.headers_after (o.ps_after _) c.ended.result (search rules) c.ended.ensures
+    set_expiry_stops _ _ _ _ _ _ _ _ _ _ o.headers_after (o.steps _) c.ended.result (search rules) c.ended.ensures
 
 -- the header was opened in slot n
 here : (c : In-Gone) → (1 ≤ c.in-Gone.n) × (c.in-Gone.n ≤ header_slots)
-here c = opened_slot _ _ _ _ _ [] _ (c.open-first.ensures.ps_after []) _ c.in-Gone.is
+here c = opened_slot _ _ _ _ _ [] _ (c.open-first.ensures.steps []) _ c.in-Gone.is
 
 pub header-h-requires : goal.header-h-requires
 header-h-requires c = let i = here (goal.at.header-h-requires c).In-Gone in omega arith
@@ -38,7 +38,7 @@ lengthen-requires c = opened (goal.at.lengthen-requires c).In-Gone
 pub returns-then-h-e : goal.returns-then-h-e
 returns-then-h-e c =
     let o = c.open-first.ensures in
-    set_expiry_longer _ _ _ _ _ _ _ _ _ _ o.headers_after (o.ps_after _) _ _ _ _ c.in-Gone.is (at_slot _ _ _ (here (goal.at.returns-then-h-e c).In-Gone) c.header-h.ensures) c.later-e.ensures
+    set_expiry_longer _ _ _ _ _ _ _ _ _ _ o.headers_after (o.steps _) _ _ _ _ c.in-Gone.is (at_slot _ _ _ (here (goal.at.returns-then-h-e c).In-Gone) c.header-h.ensures) c.later-e.ensures
     c.if-h-e.true c.lengthen.ensures
 
 pub shorten-requires : goal.shorten-requires
@@ -47,5 +47,5 @@ shorten-requires c = opened (goal.at.shorten-requires c).In-Gone
 pub returns : goal.returns
 returns c =
     let o = c.open-first.ensures in
-    set_expiry_shorter _ _ _ _ _ _ _ _ _ _ o.headers_after (o.ps_after _) _ _ _ _ c.in-Gone.is (at_slot _ _ _ (here (goal.at.returns c).In-Gone) c.header-h.ensures) c.later-e.ensures
+    set_expiry_shorter _ _ _ _ _ _ _ _ _ _ o.headers_after (o.steps _) _ _ _ _ c.in-Gone.is (at_slot _ _ _ (here (goal.at.returns c).In-Gone) c.header-h.ensures) c.later-e.ensures
     c.if-h-e.false c.shorten.ensures

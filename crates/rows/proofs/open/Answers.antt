@@ -13,7 +13,7 @@ use Rattle.rows.proofs.open.Goals as goal
 pub returns-in_default : goal.returns-in_default
 returns-in_default c = record {
   headers_after = c.set_clock.ensures;
-  ps_after = λ ps. open_ends _ _ _ _ _ ps _ c.read_header-found.ensures (search rules);
+  steps = λ ps. open_ends _ _ _ _ _ ps _ c.read_header-found.ensures (search rules);
 }
 
 -- the read found a slot
@@ -29,11 +29,11 @@ owner c =
 pub returns-then-h-client : goal.returns-then-h-client
 returns-then-h-client c = record {
   headers_after = c.set_clock.ensures;
-  ps_after = λ ps. open_refused _ _ _ _ _ ps _ c.read_header-found.ensures _ c.in-Gone.is (λ e. c.if-h-client.true (sym (owner (goal.at.returns-then-h-client c).After-header-h) ∙ e));
+  steps = λ ps. open_refused _ _ _ _ _ ps _ c.read_header-found.ensures _ c.in-Gone.is (λ e. c.if-h-client.true (sym (owner (goal.at.returns-then-h-client c).After-header-h) ∙ e));
 }
 
 pub returns : goal.returns
 returns c = record {
   headers_after = c.set_clock.ensures;
-  ps_after = λ ps. open_owned _ _ _ _ _ ps _ c.read_header-found.ensures _ c.in-Gone.is (owner (goal.at.returns c).After-header-h ∙ c.if-h-client.false);
+  steps = λ ps. open_owned _ _ _ _ _ ps _ c.read_header-found.ensures _ c.in-Gone.is (owner (goal.at.returns c).After-header-h ∙ c.if-h-client.false);
 }

@@ -26,7 +26,7 @@ returns-then-be32-lt2147483648 c =
     let e = not_in_use _ _ _ _ c.args.headers.now (λ i. (c.type_inv.headers i).fits) r.0 c.args.n r.1 r.2 (unused t) false (sym c.if-zeros.false ∙ c.zeros.ensures) in
     record { value = e.0; marks = e.1 }
 
-pub named_sound-requires-clause-n_value : goal.named_sound-requires-clause-n_value
-named_sound-requires-clause-n_value c =
+pub named_sound-requires-clause-in_use : goal.named_sound-requires-clause-in_use
+named_sound-requires-clause-in_use c =
     let r = c.requires.headers_len in
     word_in_use c.args.headers.now r.0 c.args.n r.1 r.2 _ c.be32.ensures c.if-be32-lt2147483648.false

@@ -16,7 +16,7 @@ same : (r : After-header-h) → r.header-h.result ≡ header_at (hs_from r.args.
 same r = r.header-h.ensures ∙ sym (header_place r.args.headers.now r.args.n r.requires.headers_len.1 r.requires.headers_len.2)
 
 used : (r : After-header-h) → r.header-h.result.used ≡ true
-used r = ap (λ (h : Header). h.used) (same r) ∙ r.requires.n_value
+used r = ap (λ (h : Header). h.used) (same r) ∙ r.requires.in_use
 
 good : (q : Else-not-good_header) → good_header (bank q.args.slots q.args.size) q.args.c q.header-h.result ≡ true
 good q = sym (q.good_header.ensures _) ∙ q.if-not-good_header.false

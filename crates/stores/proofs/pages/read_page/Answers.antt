@@ -22,15 +22,15 @@ pub returns-in-0 : goal.returns-in-0
 unfolding read_page
 returns-in-0 c =
     let a = c.args in record {
-      pages_value = goes _ _ _ _ _ c.in-0.is refl;
-      lent =
+      step = goes _ _ _ _ _ c.in-0.is refl;
+      lent_page =
           c.copy_from_slice.ensures.after
           ∙ c.contents-c.ensures
           ∙ ap (λ (s : Slot). s.contents) (sym (slot_place (bank a.slots a.size) a.pages.now a.id.0 c.requires.le_id.0 c.requires.le_id.1));
     }
 
-pub returns-in-1-clause-pages_value : goal.returns-in-1-clause-pages_value
-returns-in-1-clause-pages_value c = search (rules, outcomes)
+pub returns-in-1-clause-step : goal.returns-in-1-clause-step
+returns-in-1-clause-step c = search (rules, outcomes)
 
-pub returns-in_default-clause-pages_value : goal.returns-in_default-clause-pages_value
-returns-in_default-clause-pages_value c = search (rules, outcomes)
+pub returns-in_default-clause-step : goal.returns-in_default-clause-step
+returns-in_default-clause-step c = search (rules, outcomes)
