@@ -30,8 +30,8 @@ contents-requires c =
 pub returns : goal.returns
 returns c =
     let b = bank c.args.slots c.args.size in
-    let lo : 1 ≤ c.named_page-p.result.0 = omega (arith, c.if-p-eq0.false) in
+    let named : 1 ≤ c.named_page-p.result.0 = omega (arith, c.if-p-eq0.false) in
     c.contents.ensures
-    ∙ ap (λ (q : Slot). q.contents) (sym (slot_place b c.args.pages.now c.named_page-p.result.0 lo (slot-named (goal.at.returns c).After-named_page-p)))
+    ∙ ap (λ (q : Slot). q.contents) (sym (slot_place b c.args.pages.now c.named_page-p.result.0 named (slot-named (goal.at.returns c).After-named_page-p)))
     ∙ ap (λ (q : PageId). (slot_at b (ps_from b c.args.pages.now) q).contents) c.named_page-p.ensures
     ∙ named_there _ _ _ _ _ _ _ (rw (← c.named_page-p.ensures) (ne_eqb _ _ c.if-p-eq0.false))
