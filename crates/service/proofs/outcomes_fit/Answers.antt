@@ -22,11 +22,10 @@ pub loop-k-preserved : goal.loop-k-preserved
 loop-k-preserved c =
     let l = c.loop-k in
     let os = c.args.outcomes.now in
-    let h : l.k < length os = omega (arith, c.if-outcomes-ne18.false) in
-    (
+    let h : l.k < length os = omega (arith, c.if-outcomes-ne18.false) in (
       omega arith,
       ap (λ (b : Bool). b && all known (drop (l.k + 1) os))
-      (not_or l.above (ltb 2 (get_or os l.k 0)) ∙ ap (λ (t : Bool). not l.above && t) (above-2 (get_or os l.k 0)))
+          (not_or l.above (ltb 2 (get_or os l.k 0)) ∙ ap (λ (t : Bool). not l.above && t) (above-2 (get_or os l.k 0)))
           ∙ all_turn known 0 os (not l.above) l.k h
           ∙ l.invariant.1,
     )

@@ -40,19 +40,19 @@ module _ (t : In-loop-k) where
       sym (get_or-take 8 (drop a.from a.ids) k (page_id 0) (omega arith) ∙ get_or-drop a.from a.ids k (page_id 0))
 
   -- each names a slot of the table
-  in_slots : here.0 ≤ t.args.slots
-  in_slots =
+  in_slots : (i : ℕ) → i < 16 → (get_or t.args.ids i (page_id 0)).0 ≤ t.args.slots
+  in_slots i h =
       let a = t.args in
-      leb-true _ _ (all_at (id_within a.slots) (page_id 0) (a.from + t.loop-k.k) a.ids t.requires.slots_in_bounds.1 (omega (arith, sixteen)))
+      leb-true _ _ (all_at (id_within a.slots) (page_id 0) i a.ids t.requires.slots_in_bounds.1 (omega (arith, sixteen)))
 
 pub page_held-held-requires-clause-le_n : goal.page_held-held-requires-clause-le_n
-page_held-held-requires-clause-le_n c = (omega arith, in_slots (goal.at.page_held-held-requires-clause-le_n c).In-loop-k)
+page_held-held-requires-clause-le_n c = (omega arith, in_slots (goal.at.page_held-held-requires-clause-le_n c).In-loop-k (c.args.from + c.loop-k.k) (omega arith))
 
 pub bounds-seen-n : goal.bounds-seen-n
-bounds-seen-n c = omega (arith, in_slots (goal.at.bounds-seen-n c).In-loop-k)
+bounds-seen-n c = omega (arith, in_slots (goal.at.bounds-seen-n c).In-loop-k (c.args.from + c.loop-k.k) (omega arith))
 
 pub bounds-seen-n-then-n-ne0 : goal.bounds-seen-n-then-n-ne0
-bounds-seen-n-then-n-ne0 c = omega (arith, in_slots (goal.at.bounds-seen-n-then-n-ne0 c).In-loop-k)
+bounds-seen-n-then-n-ne0 c = omega (arith, in_slots (goal.at.bounds-seen-n-then-n-ne0 c).In-loop-k (c.args.from + c.loop-k.k) (omega arith))
 
 pub loop-k-preserved : goal.loop-k-preserved
 loop-k-preserved c =
