@@ -24,7 +24,7 @@ apply_edit() {
 }
 
 # unfit ERROR: whether a refusal shows nothing about what its edit was to break: the edit only made a file unfit, or nothing was decided
-unfit() { grep -qE 'has no `|has no field|is not in scope|a dimension|step limit|gave up|expected a ' <<<"$1"; }
+unfit() { grep -qE 'has no `|has no field|is not in scope|a dimension|step limit|gave up|no proof of|expected a ' <<<"$1"; }
 
 # each FUNCTION: runs it for each line of the input, with its words, as many at a time as there are processors
 each() {

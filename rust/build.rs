@@ -48,7 +48,7 @@ fn prove(root: &Path) -> Result<(), String> {
         .status();
     match run {
         Ok(status) if status.success() => Ok(()),
-        Ok(status) => Err(format!("`./library` failed ({status}): run it in the repository's root to see why")),
+        Ok(status) => Err(format!("`./library` failed ({status}): put the Rattle kit's `rt` on the path, and run it in the repository's root to see why")),
         Err(error) => Err(format!("{ARCHIVE} is not built and `./library` cannot be run ({error}): run it in the repository's root, or name the archive's folder in PAGEFILE_LIB_DIR")),
     }
 }

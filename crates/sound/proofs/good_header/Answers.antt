@@ -1,8 +1,7 @@
 -- `good_header` makes the test that the rule is, from the first part to the last.
 use Rattle.paper.specs.Sound.{good_header}
-use Rattle.std.proofs.Common.{rules}
 use Rattle.sound.proofs.good_header.Goals as goal
 
 pub returns : goal.returns
 unfolding good_header
-returns c = search rules
+returns c = λ size. cc c.ids_within.ensures
