@@ -4,4 +4,3 @@ pub mod Layouts
 pub mod Fields
 pub mod Cover
 pub mod Splice
-pub mod Fill

@@ -2,12 +2,12 @@
 -- Assumes nothing.
 use mathlib.Core.Path.{◌≡◌, sym, ap, ap₂, ◌∙◌}
 use mathlib.Core.List.{List, [], ◌∷◌, ◌++◌, append_assoc, append-nil}
-use Prim.Native.Nat.{ℕ, ◌+◌, ◌*◌, ◌/◌, ◌^◌, ◌<◌, ◌≤◌}
+use Prim.Native.Nat.{ℕ, ◌+◌, ◌-◌, ◌*◌, ◌/◌, ◌^◌, ◌<◌, ◌≤◌}
 use native.Mathlib.Nat.{add_assoc, zero-mul}
-use native.Mathlib.Numerals.{towards_suc}
 use native.Mathlib.Omega.{arith}
-use lib.ListN.{length, take, drop, set, length-append, length-take, length-drop, take-append-drop, drop_of_length-le}
-use lib.Seq.{length-take-le, take_at, drop-append-add, drop-drop, sets, sets-eq, paste, take-length}
+use borrow.Rule.Slice.PartMut.{put_mid}
+use lib.ListN.{length, take, drop, length-append, length-take, length-drop, take-append-drop, drop_of_length-le}
+use lib.Seq.{length-take-le, take_at, drop-append-add, drop-drop}
 use Rattle.bits.specs.Field.{total, join, be, value, pack, Within, splice}
 use Rattle.bits.specs.Field.Within.{none, one}
 use Rattle.bits.proofs.Numbers.{join_acc, join-append, total-append}
@@ -19,14 +19,6 @@ module _ (at : ℕ) (ys xs : List ℕ) (fits : at + length ys ≤ length xs) whe
   pub length_splice : length (splice at ys xs) ≡ length xs
   unfolding splice
   length_splice = simp (length-append, length-take, length-drop) (omega arith)
-
-  pub sets_splice : sets xs at ys ≡ splice at ys xs
-  unfolding splice
-  sets_splice = sets-eq ys xs at fits ∙ append_assoc (take at xs) ys (drop (at + length ys) xs)
-
-  pub paste_splice : paste xs at ys (length ys) ≡ splice at ys xs
-  unfolding splice
-  paste_splice = rw take-length (append_assoc (take at xs) ys (drop (at + length ys) xs))
 
 -- what stands after it already
 pub splice_more : (at k : ℕ) (ys xs : List ℕ) → at + length ys + k ≤ length xs → splice at (ys ++ take k (drop (at + length ys) xs)) xs ≡ splice at ys xs
@@ -44,18 +36,12 @@ pub splice_all : (ys xs : List ℕ) → length ys ≡ length xs → splice 0 ys 
 unfolding splice
 splice_all ys xs e = ap (λ (l : List ℕ). ys ++ l) (drop_of_length-le xs {i = 0 + length ys} (omega arith)) ∙ append-nil ys
 
--- the form in which a part that was lent comes back
-pub splice_part : (at k : ℕ) (ys xs : List ℕ) → length ys ≡ k → take at xs ++ (ys ++ drop k (drop at xs)) ≡ splice at ys xs
+-- the part from a up to e, which was lent and comes back as zs
+pub splice_range : (at : ℕ) (ys xs : List ℕ) {a e : ℕ} {zs : List ℕ} → a ≡ at → e ≡ at + length ys → zs ≡ ys → put_mid a (e - a) xs zs ≡ splice at ys xs
 unfolding splice
-splice_part at k ys xs e =
-    ap (λ (l : List ℕ). take at xs ++ (ys ++ l)) (drop-drop k at xs ∙ ap (λ (n : ℕ). drop (at + n) xs) (sym e))
-
-pub put_2 : (xs : List ℕ) (at a b : ℕ) → at + 2 ≤ length xs → set (set xs at a) (at + 1) b ≡ splice at (a ∷ b ∷ []) xs
-put_2 xs at a b h = simp towards_suc (sets_splice at (a ∷ b ∷ []) xs h)
-
-pub put_4 : (xs : List ℕ) (at a b c d : ℕ) → at + 4 ≤ length xs
-    → set (set (set (set xs at a) (at + 1) b) (at + 2) c) (at + 3) d ≡ splice at (a ∷ b ∷ c ∷ d ∷ []) xs
-put_4 xs at a b c d h = simp towards_suc (sets_splice at (a ∷ b ∷ c ∷ d ∷ []) xs h)
+splice_range at ys xs {a} {e} p q h =
+    let k : e - a ≡ length ys = omega (arith, p, q) in
+    rw (k, p, h) (ap (λ (l : List ℕ). take at xs ++ (ys ++ l)) (drop-drop (length ys) at xs))
 
 -- one after the other
 pub splice-splice : (at n : ℕ) (cs bs xs : List ℕ) → at + length cs + length bs ≤ length xs → n ≡ at + length cs

@@ -4,35 +4,18 @@
 ghost use Rattle.std.specs.Prelude.{◌≡◌, ◌+◌, ◌*◌, ◌-◌, ◌%◌, ◌<◌, ◌≤◌, length, get_or};
 ghost use Rattle.bits.specs.Field.{field, pack, splice, be, nines, half_nines, Within};
 
-// A call asks only for the index, where a cast asks too that the byte fits.
-fn wide32(b: u8) -> u32
-    ensures { (result ≡ b) × (result < 256) }
-{
-    b as u32
-}
-
-fn wide16(b: u8) -> u16
-    ensures { (result ≡ b) × (result < 256) }
-{
-    b as u16
-}
-
 pub fn be16(s: &[u8], at: usize) -> u16
     requires { at + 2 ≤ length s.now }
     ensures { result ≡ field (8 * at) 16 s.now }
 {
-    wide16(s[at]) * 256 + wide16(s[at + 1])
+    u16::from_be_bytes([s[at], s[at + 1]])
 }
 
-// By products and not by `|`: this compiles to one load and a byte swap.
 pub fn be32(s: &[u8], at: usize) -> u32
     requires { at + 4 ≤ length s.now }
     ensures { result ≡ field (8 * at) 32 s.now }
 {
-    wide32(s[at]) * 16777216
-        + wide32(s[at + 1]) * 65536
-        + wide32(s[at + 2]) * 256
-        + wide32(s[at + 3])
+    u32::from_be_bytes([s[at], s[at + 1], s[at + 2], s[at + 3]])
 }
 
 // The k-th of sixteen nine-bit numbers from byte at on: it lies in two bytes.
@@ -48,18 +31,14 @@ pub fn put16(s: &mut [u8], at: usize, v: u16)
     requires { at + 2 ≤ length s.old }
     ensures { s.new ≡ splice at (be 2 v) s.old }
 {
-    s[at] = (v / 256) as u8;
-    s[at + 1] = (v % 256) as u8;
+    s[at..at + 2].copy_from_slice(&v.to_be_bytes());
 }
 
 pub fn put32(s: &mut [u8], at: usize, v: u32)
     requires { at + 4 ≤ length s.old }
     ensures { s.new ≡ splice at (be 4 v) s.old }
 {
-    s[at] = (v / 16777216) as u8;
-    s[at + 1] = (v / 65536 % 256) as u8;
-    s[at + 2] = (v / 256 % 256) as u8;
-    s[at + 3] = (v % 256) as u8;
+    s[at..at + 4].copy_from_slice(&v.to_be_bytes());
 }
 
 // Byte j of eight nine-bit numbers, in nine bytes, holds the last j bits of the number before it ..
@@ -91,14 +70,13 @@ fn nines_byte(ids: &[u16], j: usize) -> u8
     ((ends(ids, j) << (8 - j)) + begins(ids, j)) as u8
 }
 
-// Each of the nine bytes is written once; none is read back. Nine turns are few enough for the compiler to unroll; eighteen are not.
+// Each of the nine bytes is made once, and none is read back. Nine turns are few enough for the compiler to unroll; eighteen are not.
 fn put_half(s: &mut [u8], at: usize, ids: &[u16])
     requires { (at + 9 ≤ length s.old) × Within half_nines ids.now }
     ensures { s.new ≡ splice at (pack half_nines ids.now) s.old }
 {
-    for j in 0..9 {
-        s[at + j] = nines_byte(ids, j);
-    }
+    let bytes: [u8; 9] = std::array::from_fn(|j| nines_byte(ids, j));
+    s[at..at + 9].copy_from_slice(&bytes);
 }
 
 // In halves, as eight numbers end at a whole byte.

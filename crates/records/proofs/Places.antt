@@ -7,11 +7,12 @@ use native.Mathlib.Omega.{arith}
 use lib.ListN.{length, take, drop, set}
 use lib.Seq.{drop-drop}
 use Rattle.bits.specs.Field.{splice}
+use Rattle.paper.specs.declared.Bank.{Bank}
 use Rattle.paper.specs.declared.Control.{Control}
 use Rattle.paper.specs.declared.Header.{Header}
 use Rattle.paper.specs.Ids.{page_id}
 use Rattle.paper.specs.Lists.{numbered, put_at}
-use Rattle.paper.specs.Tables.{Bank, Slot, no_header, no_slot, header_slots, header_at, slot_at, put_header, with_control, put_slot}
+use Rattle.paper.specs.Tables.{Slot, no_header, no_slot, header_slots, header_at, slot_at, put_header, with_control, put_slot}
 use Rattle.paper.specs.Bytes.{slot_size, headers_length, pages_length, control_bytes, control_from, spare_from, header_bytes, header_from, slot_bytes, slot_from, parts, hs_from, ps_from}
 use Rattle.records.specs.Fits.{ControlFits, HeaderFits, SlotFits}
 use Rattle.records.proofs.Records.{control_read, control_length, header_read, header_length, slot_read, slot_length}

@@ -9,9 +9,10 @@ use lib.Seq.{length-take-le, take_at, drop_at}
 use Rattle.bits.specs.Field.{total, pack, unpack, Within, Bytes}
 use Rattle.bits.proofs.Layouts.{unpack_within, length_pack, unpack_pack, pack_unpack}
 use Rattle.bits.proofs.Cover.{bytes-take, bytes-drop}
+use Rattle.paper.specs.declared.Bank.{Bank}
 use Rattle.paper.specs.declared.Control.{Control}
 use Rattle.paper.specs.declared.Header.{Header}
-use Rattle.paper.specs.Tables.{Bank, Slot}
+use Rattle.paper.specs.Tables.{Slot}
 use Rattle.paper.specs.Bytes.{slot_size, control_layout, control_values, control_of, spare_of, control_bytes, control_from, spare_from, header_layout, header_values, header_of, header_bytes, header_from, slot_layout, slot_values, slot_of, slot_bytes, slot_from}
 use Rattle.records.specs.Fits.{ControlFits, HeaderFits, SlotFits}
 use Rattle.records.proofs.Values.{values_of_control, header_of_values, values_of_header, slot_of_values, values_of_slot}

@@ -8,7 +8,8 @@ use lib.ListN.{length, take, drop, length-drop, length-map, take-append-drop}
 use lib.Seq.{length-take-le, take_at, drop_at}
 use Rattle.bits.specs.Field.{Bytes}
 use Rattle.bits.proofs.Cover.{bytes-take, bytes-drop}
-use Rattle.paper.specs.Tables.{Bank, HS, PS, Tables, header_slots}
+use Rattle.paper.specs.declared.Bank.{Bank}
+use Rattle.paper.specs.Tables.{HS, PS, Tables, header_slots}
 use Rattle.paper.specs.Bytes.{record_size, slot_size, headers_length, pages_length, control_bytes, control_from, spare_from, header_bytes, header_from, slot_bytes, slot_from, parts, joined, hs_from, header_table, ps_from, page_table, tables_from}
 use Rattle.records.specs.Fits.{HeaderFits, SlotFits, HSFits, PSFits}
 use Rattle.records.proofs.Records.{same_written, control_read, control_written, control_fits, control_length, header_read, header_written, header_fits, header_length, slot_read, slot_written, slot_fits, slot_length}

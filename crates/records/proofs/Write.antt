@@ -12,10 +12,11 @@ use Rattle.bits.specs.Field.{pack, be, splice, nines, Bytes}
 use Rattle.bits.specs.Field.Within.{none, one}
 use Rattle.bits.proofs.Within.{within_head, within_tail}
 use Rattle.bits.proofs.Cover.{bytes-take}
-use Rattle.bits.proofs.Splice.{length_splice, splice-splice, splice_more, splice_all, splice_part, pack-append, pack_one, pack-be}
+use Rattle.bits.proofs.Splice.{length_splice, splice-splice, splice_more, splice_all, splice_range, pack-append, pack_one, pack-be}
+use Rattle.paper.specs.declared.Bank.{Bank}
 use Rattle.paper.specs.declared.Control.{Control}
 use Rattle.paper.specs.declared.Header.{Header}
-use Rattle.paper.specs.Tables.{Bank, Slot}
+use Rattle.paper.specs.Tables.{Slot}
 use Rattle.paper.specs.Stores.{expiring}
 use Rattle.paper.specs.Bytes.{bit, ids_of, control_bytes, control_from, spare_from, header_bytes, slot_bytes, slot_from}
 use Rattle.records.specs.Fits.{ControlFits, HeaderFits}
@@ -73,8 +74,7 @@ slot_over w e page xs ys last l p copied =
     let words = be 4 w ++ be 4 e in
     let two : ys ≡ splice 0 words xs = p ∙ splice-splice 0 4 (be 4 w) (be 4 e) xs (omega arith) (omega arith) in
     let ly : length ys ≡ 8 + length page = ap length two ∙ length_splice 0 words xs (omega arith) ∙ l in
-    splice_part 8 (length ys - 8) last ys (ap length copied ∙ omega arith)
-    ∙ ap₂ (splice 8) copied two ∙ splice-splice 0 8 words page xs (omega arith) (omega arith)
+    splice_range 8 page ys refl ly copied ∙ ap (splice 8 page) two ∙ splice-splice 0 8 words page xs (omega arith) (omega arith)
     ∙ splice_all (words ++ page) xs (omega arith)
 
 -- a slot with its second word written over

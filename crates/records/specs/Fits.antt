@@ -1,13 +1,14 @@
 -- When records and tables are within their ranges, and a slot as its head beside its contents.
 use Rattle.std.specs.Prelude.{ℕ, ◌≡◌, Bool, ◌&&◌, List, [], ◌∷◌, length, eqb}
 use Rattle.bits.specs.Field.{Within, Bytes}
+use Rattle.paper.specs.declared.Bank.{Bank}
 use Rattle.paper.specs.declared.Control.{Control}
 use Rattle.paper.specs.declared.FileId.{FileId}
 use Rattle.paper.specs.declared.Header.{Header}
-use Rattle.paper.specs.Tables.{Bank, Slot, HS, PS, header_slots}
+use Rattle.paper.specs.Tables.{Slot, HS, PS, header_slots}
 use Rattle.paper.specs.Bytes.{control_layout, control_values, header_layout, header_values, slot_layout, slot_values}
 use Rattle.records.specs.declared.SlotHead.{SlotHead}
-use Rattle.records.specs.declared.HeaderKey.{HeaderKey}
+use Rattle.records.specs.declared.Lease.{Lease}
 
 abbrev pub ControlFits : Control → ℕ → Type 0
 ControlFits c spare = Within control_layout (control_values c spare)
@@ -35,13 +36,13 @@ pub record PSFits (b : Bank) (ps : PS) : Type 0 where
   pub count : length ps ≡ b.slots
 
 abbrev pub head_of : Slot → SlotHead
-head_of s = record { used = s.used; spare = s.spare; expires = s.expires }
+head_of s = record { lease = record { used = s.used; expires = s.expires }; spare = s.spare }
 
 abbrev pub slot_with : SlotHead → List ℕ → Slot
-slot_with h page = record { used = h.used; spare = h.spare; expires = h.expires; contents = page }
+slot_with h page = record { used = h.lease.used; spare = h.spare; expires = h.lease.expires; contents = page }
 
-abbrev pub key_of : Header → HeaderKey
-key_of h = record { used = h.used; expires = h.expires }
+abbrev pub lease_of : Header → Lease
+lease_of h = record { used = h.used; expires = h.expires }
 
 -- in use under this id
 abbrev pub in_use_as : FileId → Header → Bool

@@ -6,4 +6,4 @@ use Rattle.bits.proofs.be16.Goals as goal
 pub returns : goal.returns
 returns c =
     let s = c in
-    omega (arith, field_16 s.args.at s.args.s.now (λ i. (c.shared_slice_known-3-1.given i).fits) s.requires)
+    omega (arith, field_16 s.args.at s.args.s.now (λ i. (c.type_inv.s i).fits) s.requires)

@@ -17,7 +17,7 @@ returns c =
     let h = s.args.head in
     let page = s.args.page.now in
     let xs = s.args.s.now in
-    slot_over (bit h.used * 2147483648 + h.spare) h.expires page xs _ _ s.requires.0
-    (c2.put32-2.ensures ∙ ap (splice 4 (be 4 h.expires)) (c1.put32.ensures ∙ ap (λ (n : ℕ). splice 0 (be 4 n) xs) c1.first_word.ensures))
+    slot_over (bit h.lease.used * 2147483648 + h.spare) h.lease.expires page xs _ _ s.requires.0
+    (c2.put32-2.ensures ∙ ap (splice 4 (be 4 h.lease.expires)) (c1.put32.ensures ∙ ap (λ (n : ℕ). splice 0 (be 4 n) xs) c1.first_word.ensures))
     c3.copy_from_slice.ensures.after
     ∙ sym (slot_parts (slot_with h page) s.requires.1 (search rules))

@@ -12,4 +12,4 @@ returns c =
     let s = c1 in
     let k = s.args.c in
     c2.put32-2.ensures ∙ ap (splice 4 (be 4 k.clock)) c1.put32.ensures
-    ∙ control_over k s.args.headers.now (λ i. (c1.slice_known-1.given i).fits) s.requires (search rules) (search rules)
+    ∙ control_over k s.args.headers.now (λ i. search rules) s.requires (search rules) (search rules)

@@ -8,4 +8,4 @@ pub returns : goal.returns
 returns c =
     let s = c in
     c.put32.ensures
-    ∙ slot_renewed s.args.expires s.args.s.now (search rules) (λ i. (c.slice_known-1.given i).fits) s.requires
+    ∙ slot_renewed s.args.expires s.args.s.now (search rules) (λ i. search rules) s.requires

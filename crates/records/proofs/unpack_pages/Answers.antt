@@ -1,32 +1,24 @@
--- `unpack_pages` fills the array with the sixteen nine-bit fields: after k turns the first k are there.
-use mathlib.Core.Path.{◌≡◌, refl, ap, ap₂, ◌∙◌}
-use mathlib.Core.List.{List, ◌++◌}
-use Prim.Native.Nat.{ℕ, ◌<◌}
+-- `unpack_pages` reads the sixteen nine-bit fields.
+use mathlib.Core.Path.{◌≡◌, ap, ◌∙◌}
+use Prim.Native.Nat.{◌<◌, ◌+◌, ◌*◌}
 use native.Mathlib.Omega.{arith}
-use lib.ListN.{get_or, take, drop, set, replicate}
-use Rattle.bits.proofs.Fill.{fill_suc}
+use lib.ListN.{get_or}
+use Rattle.bits.specs.Field.{field}
 use Rattle.paper.specs.declared.Header.{Header}
-use Rattle.paper.specs.declared.PageId.{PageId}
 use Rattle.paper.specs.Ids.{page_id}
+use Rattle.std.proofs.Common.{rules}
+use Rattle.std.proofs.lemmas.List.{ext_get_or}
 use Rattle.records.proofs.Read.{header_fields, pages_in, page_at_lem}
 use Rattle.records.proofs.unpack_pages.Goals as goal
-
-pub loop-k-init : goal.loop-k-init
-loop-k-init c = (omega arith, refl)
-
-pub loop-k-preserved : goal.loop-k-preserved
-loop-k-preserved c =
-    let l = c.loop-k in
-    let r = c.args.r.now in
-    let k<16 : l.k < 16 = omega arith in
-    let e : page_id c.nine.result ≡ get_or (pages_in r) l.k (page_id 0) = ap page_id c.nine.ensures ∙ page_at_lem r l.k k<16 in (
-      omega arith,
-      ap₂ (λ (x : List PageId) (v : PageId). set x l.k v) l.invariant.1 e ∙ fill_suc (replicate 16 (page_id 0)) (pages_in r) l.k (page_id 0) k<16 k<16,
-    )
 
 pub returns : goal.returns
 returns c =
     let s = c in
-    let e : c.loop-k.k ≡ 16 = omega arith in
-    c.loop-k.invariant.1 ∙ ap (λ (k : ℕ). take k (pages_in s.args.r.now) ++ drop k (replicate 16 (page_id 0))) e
-    ∙ ap (λ (h : Header). h.pages) (header_fields s.args.r.now s.requires)
+    let r = s.args.r.now in
+    let made = c.from_fn.ensures.items in
+    ext_get_or (page_id 0) c.from_fn.result (pages_in r) made.long (λ i h.
+    let k : i < 16 = omega (arith, made.long, h) in
+    let called = made.at i (page_id 0) k in
+    let e : get_or c.from_fn.result i (page_id 0) ≡ page_id (field (8 * 18 + 9 * i) 9 r) = search rules in
+    e ∙ page_at_lem r i k)
+    ∙ ap (λ (h : Header). h.pages) (header_fields r (search rules))

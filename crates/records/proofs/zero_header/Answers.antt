@@ -1,20 +1,19 @@
 -- `zero_header` writes zeros over the record at n times 36 and nothing else.
-use mathlib.Core.Path.{◌≡◌, refl, ap, ap₂, ◌∙◌}
-use mathlib.Core.List.{List}
-use Prim.Native.Nat.{ℕ, ◌+◌, ◌-◌, ◌*◌}
+use mathlib.Core.Path.{◌≡◌, ap, ◌∙◌}
+use Prim.Native.Nat.{◌≤◌, ℕ, ◌-◌, ◌*◌}
 use native.Mathlib.Omega.{arith}
-use lib.ListN.{length, take, drop, replicate, length-drop}
 use lib.Seq.{length-take-le}
-use borrow.Rule.Slice.PartMut.{put_mid}
-use Rattle.bits.proofs.Splice.{splice_part}
+use lib.ListN.{length-drop, length, take, drop, replicate}
+use Rattle.bits.proofs.Splice.{splice_range}
 use Rattle.records.proofs.zero_header.Goals as goal
 
 pub returns : goal.returns
 returns c =
     let s = c in
-    let a = s.args.n * 36 in
+    let at = c.record_range.ensures in
     let xs = s.args.headers.now in
-    let e : a + 36 - a ≡ 36 = omega arith in
-    let l : length (take 36 (drop a xs)) ≡ 36 = length-take-le 36 (drop a xs) (omega (arith, length-drop a xs)) in
-    let zeros = c.zero.ensures ∙ ap (λ (k : ℕ). replicate (length (take k (drop a xs))) 0) e ∙ ap (λ (k : ℕ). replicate k 0) l in
-    ap₂ (λ (k : ℕ) (l : List ℕ). put_mid a k xs l) e zeros ∙ splice_part a 36 (replicate 36 0) xs refl
+    let from = c.record_range.result.start in
+    let to = c.record_range.result.end in
+    let part : to - from ≤ length (drop from xs) = omega (arith, at.0, at.1, s.requires, length-drop from xs) in
+    let long : length (take (to - from) (drop from xs)) ≡ 36 = length-take-le (to - from) (drop from xs) part ∙ omega (arith, at.0, at.1) in
+    splice_range (s.args.n * 36) (replicate 36 0) xs at.0 at.1 (c.zero.ensures ∙ ap (λ (k : ℕ). replicate k 0) long)
