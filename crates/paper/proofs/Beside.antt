@@ -3,8 +3,9 @@
 use mathlib.Core.Path.{◌≡◌, refl}
 use mathlib.Core.Bool.{Bool, true, ◌&&◌}
 use mathlib.Core.List.{List, [], ◌∷◌}
+use Rattle.paper.specs.declared.Bank.{Bank}
 use Rattle.paper.specs.Lists.{all}
-use Rattle.paper.specs.Tables.{Bank, Tables, standard, fresh}
+use Rattle.paper.specs.Tables.{Tables, standard, fresh}
 use Rattle.paper.specs.Requests.{Reply, serve}
 use Rattle.paper.specs.Plain.{Plain, fresh_machine, plain}
 use Rattle.paper.specs.View.{view, beside}

@@ -5,7 +5,9 @@ use mathlib.Core.Path.{◌≡◌, refl}
 use mathlib.Core.List.{List, [], ◌∷◌, ◌++◌, zip_with}
 use lib.ListN.{set, take, replicate}
 use Rattle.paper.specs.Ids.{file_id, page_num}
-use Rattle.paper.specs.Tables.{Bank}
+use Rattle.paper.specs.declared.Bank.{Bank}
+use Rattle.paper.specs.declared.Refusal.{Refusal}
+use Rattle.paper.specs.declared.Refusal.TheVariants.{BadCall, Damaged, ClockBack}
 use Rattle.paper.specs.Answers.{refused}
 use Rattle.paper.specs.Service.{Left, serve_bytes, format, look, look_slot}
 use Rattle.paper.specs.Sessions.{Call, at, failing, first, run_bytes, formatted, shows, page_a, create_a, write_b, read_of}
@@ -67,11 +69,34 @@ pub lies : (asked lying made.headers made.pages ≡ 1 ∷ replicate 7 0) × (lyi
 unfolding computing
 lies = (refl, refl)
 
--- at a wrong length, the very same bytes
-abbrev same : List ℕ → List ℕ → List ℕ → Left
-same page headers pages = record { report = refused 1; page = page; headers = headers; pages = pages }
+-- refused before all else, the very same bytes: at wrong lengths, ..
+abbrev same : Refusal → List ℕ → List ℕ → List ℕ → Left
+same a page headers pages = record { report = refused a; page = page; headers = headers; pages = pages }
 
-pub wrong_lengths : format tiny (1 ∷ []) made.pages ∷ serve_bytes tiny 10 (replicate 18 0) (read_of tiny 1 0) made.headers (2 ∷ []) ∷ []
-    ≡ same [] (1 ∷ []) made.pages ∷ same (replicate 4 0) made.headers (2 ∷ []) ∷ []
+abbrev asking : ℕ → ℕ → List ℕ → List ℕ → Left
+asking now number headers pages = serve_bytes tiny now (replicate 18 0) (read_of tiny 1 number) headers pages
+
+pub wrong_lengths : format tiny (1 ∷ []) made.pages
+    ∷ asking 10 0 made.headers (2 ∷ [])
+    ∷ asking 10 0 (made.headers ++ 0 ∷ []) made.pages
+    ∷ asking 10 0 made.headers (made.pages ++ 0 ∷ [])
+    ∷ []
+    ≡ same BadCall [] (1 ∷ []) made.pages
+    ∷ same BadCall (replicate 4 0) made.headers (2 ∷ [])
+    ∷ same BadCall (replicate 4 0) (made.headers ++ 0 ∷ []) made.pages
+    ∷ same BadCall (replicate 4 0) made.headers (made.pages ++ 0 ∷ [])
+    ∷ []
 unfolding computing
 wrong_lengths = refl
+
+-- .. by page number 16, in damage, below the clock
+abbrev damaged : List ℕ
+damaged = set made.headers 35 1
+
+pub nothing_written : asking 20 16 made.headers made.pages ∷ asking 20 0 damaged made.pages ∷ asking 9 0 made.headers made.pages ∷ []
+    ≡ same BadCall (replicate 4 0) made.headers made.pages
+    ∷ same Damaged (replicate 4 0) damaged made.pages
+    ∷ same ClockBack (replicate 4 0) made.headers made.pages
+    ∷ []
+unfolding computing
+nothing_written = refl

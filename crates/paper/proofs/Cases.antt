@@ -1,10 +1,12 @@
 -- What the sessions leave open, computed on a bank of 3 slots of 2 bytes: each step refused or cut, expired slots serving again, the last ids.
 use Prim.Native.Nat.{ℕ}
 use mathlib.Core.Path.{◌≡◌, refl}
+use mathlib.Core.Bool.{false}
 use mathlib.Core.List.{List, [], ◌∷◌, map, zip_with}
 use lib.ListN.{replicate}
+use Rattle.paper.specs.declared.Bank.{Bank}
 use Rattle.paper.specs.Ids.{file_id, page_num}
-use Rattle.paper.specs.Tables.{Bank, Tables, no_header, no_slot, fresh}
+use Rattle.paper.specs.Tables.{Tables, no_header, no_slot, fresh}
 use Rattle.paper.specs.Answers.{Request, Create, Write, Read, Info, Destroy, SetExpiry, Scavenge}
 use Rattle.paper.specs.Requests.{Reply}
 use Rattle.paper.specs.Sessions.{Call, at, failing, first, page_b, create_a, write_b, read_of, set_expiry_to, run, shows}
@@ -24,6 +26,9 @@ read id = read_of few id 0
 
 abbrev destroy : ℕ → ℕ → Request
 destroy client id = Destroy client (file_id id)
+
+abbrev with_outcomes : ℕ → Call
+with_outcomes n = record { now = 9; outcomes = replicate n 0; request = Scavenge }
 
 abbrev pub cases : List (List Call)
 cases =
@@ -55,7 +60,7 @@ cases =
     ∷ (first few ∷ at 20 (SetExpiry 8 (file_id 1) 200) ∷ at 20 (SetExpiry 8 (file_id 1) 50) ∷ at 99 (read 1) ∷ [])
     -- malformed calls
     ∷ (at 9 (Create 7 (page_num 16) (page_b few) 100) ∷ at 9 (Create 7 (page_num 0) (0 ∷ []) 100) ∷ at 9 (Write 7 (file_id 1) (page_num 16) (page_b few)) ∷ [])
-    ∷ (first few ∷ failing 18 3 9 (read 1) ∷ at 9 (Write 7 (file_id 1) (page_num 0) (0 ∷ [])) ∷ at 9 (Read (file_id 1) (page_num 0) (5 ∷ [])) ∷ record { now = 9; outcomes = replicate 17 0; request = Scavenge } ∷ [])
+    ∷ (first few ∷ failing 18 3 9 (read 1) ∷ at 9 (Write 7 (file_id 1) (page_num 0) (0 ∷ [])) ∷ at 9 (Read (file_id 1) (page_num 0) (5 ∷ [])) ∷ at 9 (Read (file_id 1) (page_num 0) (5 ∷ 5 ∷ 5 ∷ [])) ∷ with_outcomes 17 ∷ with_outcomes 19 ∷ [])
     ∷ []
 
 abbrev given : List (List (List ℕ))
@@ -79,7 +84,7 @@ given =
     ∷ ((0 ∷ 1 ∷ []) ∷ (0 ∷ 2 ∷ []) ∷ (0 ∷ 1 ∷ 1 ∷ []) ∷ (0 ∷ 0x41 ∷ []) ∷ [])
     ∷ ((0 ∷ 1 ∷ []) ∷ (5 ∷ 0 ∷ []) ∷ (5 ∷ 0 ∷ []) ∷ (0 ∷ 0x41 ∷ []) ∷ [])
     ∷ ((1 ∷ 0 ∷ []) ∷ (1 ∷ 0 ∷ []) ∷ (1 ∷ 0 ∷ []) ∷ [])
-    ∷ ((0 ∷ 1 ∷ []) ∷ (1 ∷ 0 ∷ []) ∷ (1 ∷ 0 ∷ []) ∷ (1 ∷ 5 ∷ []) ∷ (1 ∷ 0 ∷ 0 ∷ []) ∷ [])
+    ∷ ((0 ∷ 1 ∷ []) ∷ (1 ∷ 0 ∷ []) ∷ (1 ∷ 0 ∷ []) ∷ (1 ∷ 5 ∷ []) ∷ (1 ∷ 5 ∷ []) ∷ (1 ∷ 0 ∷ 0 ∷ []) ∷ (1 ∷ 0 ∷ 0 ∷ []) ∷ [])
     ∷ []
 
 abbrev rows : List Call → List Reply → List (List ℕ)
@@ -121,8 +126,13 @@ abbrev damaged : Tables
 damaged = record { hs = record { control = record { next = 1; clock = 10 }; spare = 1; headers = [] }; ps = [] }
 
 abbrev order : List Call
-order = failing 18 3 9 (read 1) ∷ at 9 (read 1) ∷ []
+order = failing 18 3 9 (read 1) ∷ at 9 (read_of few 1 16) ∷ at 9 (read 1) ∷ []
 
-pub refusals_in_order : rows order (run few order damaged) ≡ (1 ∷ 0 ∷ []) ∷ (2 ∷ 0 ∷ []) ∷ []
+pub refusals_in_order : rows order (run few order damaged) ≡ (1 ∷ 0 ∷ []) ∷ (1 ∷ 0 ∷ []) ∷ (2 ∷ 0 ∷ []) ∷ []
 unfolding computing
 refusals_in_order = refl
+
+-- and none of them past a header step
+pub none_past : map (λ (r : Reply). r.past) (run few order damaged) ≡ replicate 3 false
+unfolding computing
+none_past = refl

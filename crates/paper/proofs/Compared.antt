@@ -1,7 +1,7 @@
 -- Two machines compared by a test that computes: what a machine shows as numbers, and whether a reply gave what the machine gives.
 use Prim.Native.Nat.{ℕ, zero, suc}
 use mathlib.Core.Bool.{Bool, true, false, ◌&&◌}
-use mathlib.Core.Option.{Option, none, some}
+use Rattle.std.specs.Prelude.{Option, Some, None}
 use mathlib.Core.List.{List, [], ◌∷◌, ◌++◌}
 use lib.Dec.{eqb}
 use Rattle.paper.specs.declared.Facts.{Facts}
@@ -20,16 +20,16 @@ abbrev pub facts_seen : Facts → List ℕ
 facts_seen f = f.owner ∷ f.created ∷ f.updated ∷ f.expires ∷ []
 
 abbrev pub page_seen : Option (List ℕ) → List ℕ
-page_seen none = 0 ∷ []
-page_seen (some c) = 1 ∷ c
+page_seen None = 0 ∷ []
+page_seen (Some c) = 1 ∷ c
 
 abbrev pub pages_seen : File → List ℕ → List ℕ
 pages_seen f [] = []
 pages_seen f (n ∷ ns) = page_seen (f.pages (page_num n)) ++ pages_seen f ns
 
 abbrev pub file_seen : Option File → List ℕ
-file_seen none = 0 ∷ []
-file_seen (some f) =
+file_seen None = 0 ∷ []
+file_seen (Some f) =
     1 ∷ facts_seen f.facts ++ pages_seen f (0 ∷ 1 ∷ 2 ∷ 3 ∷ 4 ∷ 5 ∷ 6 ∷ 7 ∷ 8 ∷ 9 ∷ 10 ∷ 11 ∷ 12 ∷ 13 ∷ 14 ∷ 15 ∷ [])
 
 abbrev pub files_seen : Plain → List ℕ → List ℕ

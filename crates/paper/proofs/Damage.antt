@@ -4,9 +4,10 @@ use mathlib.Core.Path.{◌≡◌, refl}
 use mathlib.Core.Bool.{Bool, true, false}
 use mathlib.Core.List.{List, [], ◌∷◌, ◌++◌, map}
 use lib.ListN.{length, take, replicate}
+use Rattle.paper.specs.declared.Bank.{Bank}
 use Rattle.paper.specs.declared.Header.{Header}
 use Rattle.paper.specs.Ids.{file_id, page_id}
-use Rattle.paper.specs.Tables.{Bank, Slot, Tables, no_header, no_slot, no_pages}
+use Rattle.paper.specs.Tables.{Slot, Tables, no_header, no_slot, no_pages}
 use Rattle.paper.specs.Sound.{s1, s2, s3, s4, s5, sound}
 use Rattle.paper.proofs.Computing.{computing}
 

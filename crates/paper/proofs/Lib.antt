@@ -8,3 +8,4 @@ pub mod Beside
 pub mod Bytes
 pub mod Damage
 pub mod Cases
+pub mod Reports

@@ -1,16 +1,18 @@
 -- What document 01 says beside the sessions, each computed.
 use Prim.Native.Nat.{ℕ}
 use mathlib.Core.Path.{◌≡◌, refl}
-use mathlib.Core.Bool.{true}
-use mathlib.Core.List.{List, [], ◌∷◌, map}
+use mathlib.Core.Bool.{true, false}
+use mathlib.Core.List.{List, [], ◌∷◌, ◌++◌, map}
 use lib.ListN.{set, replicate, drop}
 use Rattle.paper.specs.declared.Header.{Header}
-use Rattle.paper.specs.declared.Answer.{Answer}
-use Rattle.paper.specs.declared.Answer.TheVariants.{Success, Told, Counted, BadCall, Damaged, ClockBack, NoSuchFile, NotOwner, NoSuchPage, NoSpace, NoIds, ServiceError, Cut}
+use Rattle.std.specs.Prelude.{Result, Ok, Err}
+use Rattle.paper.specs.declared.Refusal.{Refusal}
+use Rattle.paper.specs.declared.Refusal.TheVariants.{BadCall, Damaged, ClockBack, NoSuchFile, NotOwner, NoSuchPage, NoSpace, NoIds, ServiceError, Cut}
 use Rattle.paper.specs.Ids.{file_id, page_id, null_id}
 use Rattle.paper.specs.Tables.{standard, Tables, header_at, slot_at, no_pages, fresh}
 use Rattle.paper.specs.Stores.{full_slot}
-use Rattle.paper.specs.Answers.{no_facts, no_counts, report}
+use Rattle.paper.specs.Steps.{is_cut}
+use Rattle.paper.specs.Answers.{an_id, facts, counts, no_gift, no_facts, no_counts, report, number_of, answer_number}
 use Rattle.paper.specs.Requests.{Reply}
 use Rattle.paper.specs.Bytes.{headers_length, pages_length, header_bytes, header_from}
 use Rattle.paper.specs.Sessions.{Call, run, first, failing, write_b, page_b}
@@ -70,15 +72,23 @@ pub slot_two : slot_at standard (after (first standard ∷ failing 3 1 20 (write
 unfolding computing
 slot_two = refl
 
--- The numbers of the answers, by their names.
-pub answers_numbered : map (λ (a : Answer). (report a).number)
-    (Success null_id ∷ Told no_facts ∷ Counted no_counts ∷ BadCall ∷ Damaged ∷ ClockBack ∷ NoSuchFile ∷ NotOwner ∷ NoSuchPage ∷ NoSpace ∷ NoIds ∷ ServiceError ∷ Cut ∷ [])
-    ≡ 0 ∷ 0 ∷ 0 ∷ 1 ∷ 2 ∷ 3 ∷ 4 ∷ 5 ∷ 6 ∷ 7 ∷ 8 ∷ 9 ∷ 10 ∷ []
+abbrev refusals : List Refusal
+refusals = BadCall ∷ Damaged ∷ ClockBack ∷ NoSuchFile ∷ NotOwner ∷ NoSuchPage ∷ NoSpace ∷ NoIds ∷ ServiceError ∷ Cut ∷ []
+
+-- The numbers of the answers, by their names, as a caller counts them and as a report has them.
+pub answers_numbered : map {B = ℕ × ℕ} (λ (a : Result (Unit {0}) Refusal). (answer_number a, (report no_gift a).number)) (Ok tt ∷ map Err refusals)
+    ≡ map {B = ℕ × ℕ} (λ n. (n, n)) (0 ∷ 1 ∷ 2 ∷ 3 ∷ 4 ∷ 5 ∷ 6 ∷ 7 ∷ 8 ∷ 9 ∷ 10 ∷ [])
 answers_numbered = refl
 
 -- Success has its values, and every refusal zeros.
-pub answers_valued : (report (Success (file_id 5)) ≡ record { number = 0; id = file_id 5; facts = no_facts; swept = no_counts })
-    × (report (Told (record { owner = 1; created = 2; updated = 3; expires = 4 })) ≡ record { number = 0; id = null_id; facts = record { owner = 1; created = 2; updated = 3; expires = 4 }; swept = no_counts })
-    × (report (Counted (record { headers = 1; pages = 2 })) ≡ record { number = 0; id = null_id; facts = no_facts; swept = record { headers = 1; pages = 2 } })
-    × (report NoSpace ≡ record { number = 7; id = null_id; facts = no_facts; swept = no_counts })
-answers_valued = (refl, refl, refl, refl)
+pub answers_valued : (report an_id (Ok (file_id 5)) ≡ record { number = 0; id = file_id 5; facts = no_facts; swept = no_counts })
+    × (report facts (Ok (record { owner = 1; created = 2; updated = 3; expires = 4 }))
+    ≡ record { number = 0; id = null_id; facts = record { owner = 1; created = 2; updated = 3; expires = 4 }; swept = no_counts })
+    × (report counts (Ok (record { headers = 1; pages = 2 })) ≡ record { number = 0; id = null_id; facts = no_facts; swept = record { headers = 1; pages = 2 } })
+    × (report no_gift (Ok tt) ≡ record { number = 0; id = null_id; facts = no_facts; swept = no_counts })
+    × (map (λ r. report an_id (Err r)) refusals ≡ map (λ r. record { number = number_of r; id = null_id; facts = no_facts; swept = no_counts }) refusals)
+answers_valued = (refl, refl, refl, refl, refl)
+
+-- Of the refusals Cut alone is not passed over.
+pub only_cut : map is_cut refusals ≡ replicate 9 false ++ true ∷ []
+only_cut = refl

@@ -1,11 +1,12 @@
 -- What a request is given, and what it answers: the number, and the values that go with it.
-use Rattle.std.specs.Prelude.{ℕ, List, []}
+use Rattle.std.specs.Prelude.{ℕ, ◌≤◌, ◌≡◌, ◌⊎◌, List, [], Result, Ok, Err}
 use Rattle.paper.specs.declared.FileId.{FileId}
 use Rattle.paper.specs.declared.PageNum.{PageNum}
 use Rattle.paper.specs.declared.Facts.{Facts}
 use Rattle.paper.specs.declared.Swept.{Swept}
-use Rattle.paper.specs.declared.Answer.{Answer}
-use Rattle.paper.specs.declared.Answer.TheVariants.{Success, Told, Counted, BadCall, Damaged, ClockBack, NoSuchFile, NotOwner, NoSuchPage, NoSpace, NoIds, ServiceError, Cut}
+use Rattle.paper.specs.declared.Refusal.{Refusal}
+use Rattle.paper.specs.declared.UnknownNumber.{UnknownNumber}
+use Rattle.paper.specs.declared.Refusal.TheVariants.{BadCall, Damaged, ClockBack, NoSuchFile, NotOwner, NoSuchPage, NoSpace, NoIds, ServiceError, Cut}
 use Rattle.paper.specs.Ids.{null_id}
 
 -- What a request is given beside now and its outcome list; Read's last is the lent page.
@@ -55,9 +56,27 @@ succeeded (facts f) = record { number = 0; id = null_id; facts = f; swept = no_c
 succeeded (counts c) = record { number = 0; id = null_id; facts = no_facts; swept = c }
 succeeded (contents c) = record { number = 0; id = null_id; facts = no_facts; swept = no_counts }
 
+-- The numbers of the answers that are no Success.
+abbrev pub number_of : Refusal → ℕ
+number_of BadCall = 1
+number_of Damaged = 2
+number_of ClockBack = 3
+number_of NoSuchFile = 4
+number_of NotOwner = 5
+number_of NoSuchPage = 6
+number_of NoSpace = 7
+number_of NoIds = 8
+number_of ServiceError = 9
+number_of Cut = 10
+
+-- Numbers n r: r is the refusal with number n, or there is none.
+abbrev pub Numbers : ℕ → Result Refusal UnknownNumber → Type 0
+Numbers n (Ok r) = number_of r ≡ n
+Numbers n (Err e) = (e ≡ record { 0 = n }) × ((n ≡ 0) ⊎ (11 ≤ n))
+
 -- Except for Success, the id, the counts and Info's fields are 0.
-abbrev pub refused : ℕ → Report
-refused n = record { number = n; id = null_id; facts = no_facts; swept = no_counts }
+abbrev pub refused : Refusal → Report
+refused r = record { number = number_of r; id = null_id; facts = no_facts; swept = no_counts }
 
 -- a lent page to read into is unchanged but on Success
 abbrev pub page_after : Gift → List ℕ → List ℕ
@@ -67,18 +86,17 @@ page_after (facts f) lent = lent
 page_after (counts c) lent = lent
 page_after (contents c) lent = c
 
--- The numbers of the answers.
-abbrev pub report : Answer → Report
-report (Success i) = succeeded (an_id i)
-report (Told f) = succeeded (facts f)
-report (Counted c) = succeeded (counts c)
-report BadCall = refused 1
-report Damaged = refused 2
-report ClockBack = refused 3
-report NoSuchFile = refused 4
-report NotOwner = refused 5
-report NoSuchPage = refused 6
-report NoSpace = refused 7
-report NoIds = refused 8
-report ServiceError = refused 9
-report Cut = refused 10
+-- Success without a value gives nothing.
+abbrev pub no_gift : Unit {0} → Gift
+no_gift u = nothing
+
+module _ {A : Type 0} where
+  -- What a function's result reports: the gift that its value is, or its refusal.
+  abbrev pub report : (A → Gift) → Result A Refusal → Report
+  report g (Ok a) = succeeded (g a)
+  report g (Err r) = refused r
+
+  -- 0 is Success.
+  abbrev pub answer_number : Result A Refusal → ℕ
+  answer_number (Ok a) = 0
+  answer_number (Err r) = number_of r

@@ -1,11 +1,12 @@
 -- The two tables as bytes: the three records by their layouts, and whole tables, read and written.
 use Rattle.std.specs.Prelude.{ℕ, zero, suc, ◌+◌, ◌*◌, Bool, true, false, List, [], ◌∷◌, ◌++◌, map, take, drop, get_or, eqb}
 use Rattle.bits.specs.Field.{pack, unpack, nines}
+use Rattle.paper.specs.declared.Bank.{Bank}
 use Rattle.paper.specs.declared.PageId.{PageId}
 use Rattle.paper.specs.declared.Control.{Control}
 use Rattle.paper.specs.declared.Header.{Header}
 use Rattle.paper.specs.Ids.{file_id, page_id}
-use Rattle.paper.specs.Tables.{Bank, Slot, HS, PS, Tables, header_slots}
+use Rattle.paper.specs.Tables.{Slot, HS, PS, Tables, header_slots}
 
 abbrev pub bit : Bool → ℕ
 bit true = 1

@@ -1,7 +1,5 @@
 -- The words on lists and tests that the rules are written in. Every test is a Bool, so that it computes.
-use Rattle.std.specs.Prelude.{ℕ, zero, suc, Bool, true, not, ◌&&◌, cond, List, [], ◌∷◌, get_or, set, eqb}
-use Rattle.paper.specs.declared.Found.{Found}
-use Rattle.paper.specs.declared.Found.TheVariants.{At, Nothing}
+use Rattle.std.specs.Prelude.{ℕ, zero, suc, Bool, true, not, ◌&&◌, cond, List, [], ◌∷◌, get_or, set, eqb, Option, Some, None}
 
 module _ {A : Type 0} where
   -- the test passes at every element
@@ -20,12 +18,12 @@ module _ {A : Type 0} where
   those f (x ∷ xs) = cond (f x) (x ∷ those f xs) (those f xs)
 
   -- the number of the first that passes, where the list's first has number n
-  unfoldable pub lowest_from : (A → Bool) → ℕ → List A → Found
-  lowest_from f n [] = Nothing
-  lowest_from f n (x ∷ xs) = cond (f x) (At n) (lowest_from f (suc n) xs)
+  unfoldable pub lowest_from : (A → Bool) → ℕ → List A → Option ℕ
+  lowest_from f n [] = None
+  lowest_from f n (x ∷ xs) = cond (f x) (Some n) (lowest_from f (suc n) xs)
 
   -- slots are numbered from 1
-  abbrev pub lowest : (A → Bool) → List A → Found
+  abbrev pub lowest : (A → Bool) → List A → Option ℕ
   lowest f xs = lowest_from f 1 xs
 
   -- the one with number n, or d where there is none

@@ -1,9 +1,10 @@
 -- The plain machine: a clock, a next id, and files. Nothing in it knows of slots, steps or banks.
-use Rattle.std.specs.Prelude.{ℕ, ◌+◌, cond, List, eqb, ltb}
-use Rattle.std.proofs.Math.Option.{Option, none, some}
+use Rattle.std.specs.Prelude.{ℕ, ◌+◌, cond, List, eqb, ltb, Option, Some, None}
 use Rattle.paper.specs.declared.FileId.{FileId}
 use Rattle.paper.specs.declared.PageNum.{PageNum}
 use Rattle.paper.specs.declared.Facts.{Facts}
+use Rattle.paper.specs.declared.Refusal.{Refusal}
+use Rattle.paper.specs.declared.Refusal.TheVariants.{NoSuchFile, NotOwner, NoSuchPage, NoIds}
 use Rattle.paper.specs.Ids.{file_id, no_more_ids, later}
 use Rattle.paper.specs.Answers.{Request, Create, Write, Read, Info, Destroy, SetExpiry, Scavenge, lent_page, Report, Gift, nothing, an_id, facts, contents, succeeded, refused, page_after}
 
@@ -19,50 +20,50 @@ pub record Plain : Type 0 where
 
 -- no files, clock 0, next id 1
 abbrev pub fresh_machine : Plain
-fresh_machine = record { clock = 0; next = 1; files = λ x. none }
+fresh_machine = record { clock = 0; next = 1; files = λ x. None }
 
 -- It never holds a file whose expiry its clock has reached, a new one included.
 abbrev pub kept : ℕ → Option File → Option File
-kept now none = none
-kept now (some f) = cond (ltb now f.facts.expires) (some f) none
+kept now None = None
+kept now (Some f) = cond (ltb now f.facts.expires) (Some f) None
 
 -- only the time taken
 unfoldable pub passed : ℕ → Plain → Plain
 passed now m = record { clock = now; next = m.next; files = λ x. kept now (m.files x) }
 
 abbrev pub without : FileId → Plain → Plain
-without id m = record { clock = m.clock; next = m.next; files = λ x. cond (eqb x.0 id.0) none (m.files x) }
+without id m = record { clock = m.clock; next = m.next; files = λ x. cond (eqb x.0 id.0) None (m.files x) }
 
 abbrev pub holding : File → Plain → Plain
 holding f m = record {
   clock = m.clock;
   next = m.next + 1;
-  files = λ x. cond (eqb x.0 m.next) (kept m.clock (some f)) (m.files x);
+  files = λ x. cond (eqb x.0 m.next) (kept m.clock (Some f)) (m.files x);
 }
 
--- What the machine makes of a request: what it gives and the machine then, or the answer's number.
+-- What the machine makes of a request: what it gives and the machine then, or the refusal.
 pub data Deed : Type 0 where
   does : Gift → Plain → Deed
-  refuses : ℕ → Deed
+  refuses : Refusal → Deed
 
 -- the file under the next id, which is given
 abbrev pub storing : File → Plain → Deed
-storing f m = cond (ltb m.next no_more_ids) (does (an_id (file_id m.next)) (holding f m)) (refuses 8)
+storing f m = cond (ltb m.next no_more_ids) (does (an_id (file_id m.next)) (holding f m)) (refuses NoIds)
 
 abbrev pub on_file : FileId → Plain → (File → Deed) → Deed
-on_file id m d = elim (m.files id) [ none ↦ refuses 4 | some f ↦ d f ]
+on_file id m d = elim (m.files id) [ None ↦ refuses NoSuchFile | Some f ↦ d f ]
 
 abbrev pub by_owner : ℕ → File → Deed → Deed
-by_owner client f d = cond (eqb f.facts.owner client) d (refuses 5)
+by_owner client f d = cond (eqb f.facts.owner client) d (refuses NotOwner)
 
 abbrev pub with_page : PageNum → List ℕ → (PageNum → Option (List ℕ)) → PageNum → Option (List ℕ)
-with_page number page pages n = cond (eqb n.0 number.0) (some page) (pages n)
+with_page number page pages n = cond (eqb n.0 number.0) (Some page) (pages n)
 
 unfoldable pub plain_create : ℕ → PageNum → List ℕ → ℕ → Plain → Deed
 plain_create client number page expires m =
     storing (record {
       facts = record { owner = client; created = m.clock; updated = m.clock; expires = later expires m.clock };
-      pages = with_page number page (λ n. none);
+      pages = with_page number page (λ n. None);
     }) m
 
 -- the file again, with another expiry and other pages, updated now
@@ -77,7 +78,7 @@ plain_write client id number page m =
     on_file id m (λ f. by_owner client f (storing (renewed m f.facts.expires (with_page number page f.pages) f) (without id m)))
 
 unfoldable pub plain_read : FileId → PageNum → Plain → Deed
-plain_read id number m = on_file id m (λ f. elim (f.pages number) [ none ↦ refuses 6 | some c ↦ does (contents c) m ])
+plain_read id number m = on_file id m (λ f. elim (f.pages number) [ None ↦ refuses NoSuchPage | Some c ↦ does (contents c) m ])
 
 unfoldable pub plain_info : FileId → Plain → Deed
 plain_info id m = on_file id m (λ f. does (facts f.facts) m)
@@ -106,7 +107,7 @@ pub record Told : Type 0 where
 
 unfoldable pub told : List ℕ → Plain → Deed → Told
 told lent m (does g m') = record { report = succeeded g; page = page_after g lent; machine = m' }
-told lent m (refuses n) = record { report = refused n; page = lent; machine = m }
+told lent m (refuses a) = record { report = refused a; page = lent; machine = m }
 
 -- the time is taken first
 unfoldable pub plain : ℕ → Request → Plain → Told

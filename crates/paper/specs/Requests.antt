@@ -1,13 +1,16 @@
 -- The requests, each as its row of steps.
-use Rattle.std.specs.Prelude.{ℕ, Bool, true, false, not, ◌&&◌, cond, List, [], ◌∷◌, set, length, leb, eqb}
+use Rattle.std.specs.Prelude.{ℕ, Bool, true, false, not, ◌&&◌, cond, List, [], ◌∷◌, set, length, leb, eqb, Result, Ok, Err}
+use Rattle.paper.specs.declared.Bank.{Bank}
 use Rattle.paper.specs.declared.FileId.{FileId}
 use Rattle.paper.specs.declared.PageId.{PageId}
 use Rattle.paper.specs.declared.PageNum.{PageNum}
 use Rattle.paper.specs.declared.Header.{Header}
 use Rattle.paper.specs.declared.Facts.{Facts}
+use Rattle.paper.specs.declared.Refusal.{Refusal}
+use Rattle.paper.specs.declared.Refusal.TheVariants.{BadCall, Damaged, ClockBack, NotOwner, NoSuchPage}
 use Rattle.paper.specs.Ids.{file_id, page_id, null_id, later}
 use Rattle.paper.specs.Lists.{all, is_zero}
-use Rattle.paper.specs.Tables.{Bank, Tables, no_pages, clock_of, header_at, slot_at, get_page_id, with_clock}
+use Rattle.paper.specs.Tables.{Tables, no_pages, clock_of, header_at, slot_at, get_page_id, with_clock}
 use Rattle.paper.specs.Sound.{sound}
 use Rattle.paper.specs.Stores.{create_page, read_page, destroy_page, set_page_expiry, scavenge_pages, create_header, read_header, replace_header, destroy_header, scavenge_headers}
 use Rattle.paper.specs.Steps.{Run, on, end, Steps, ◌>>=◌, ◌>>◌, give, ask, check, step, cleanup, header_step, each_page, on_headers, on_pages}
@@ -47,10 +50,10 @@ abbrev pub header_in : ℕ → Tables → Header
 header_in n t = header_at t.hs n
 
 abbrev pub check_owner : ℕ → Header → Steps ℕ
-check_owner client h = check (eqb h.owner client) 5
+check_owner client h = check (eqb h.owner client) NotOwner
 
 abbrev pub check_page_id : PageId → Steps ℕ
-check_page_id p = check (not (is_zero p.0)) 6
+check_page_id p = check (not (is_zero p.0)) NoSuchPage
 
 -- Create: let e be the later of expires and now. 1 create page with expiry e; 2 create header: owner client,
 -- created = updated = now, expires e, that one page id.
@@ -146,7 +149,7 @@ pub record Reply : Type 0 where
 
 unfoldable pub reply_of : List ℕ → Run Gift → Reply
 reply_of lent (on g s) = record { report = succeeded g; page = page_after g lent; tables = s.tables; past = s.past }
-reply_of lent (end n s) = record { report = refused n; page = lent; tables = s.tables; past = s.past }
+reply_of lent (end a s) = record { report = refused a; page = lent; tables = s.tables; past = s.past }
 
 -- All but Format and Look store now as the clock before step 1.
 unfoldable pub carry_out : Bank → ℕ → List ℕ → Request → Tables → Reply
@@ -169,17 +172,19 @@ well_formed b Scavenge = true
 abbrev pub outcomes_fit : List ℕ → Bool
 outcomes_fit os = eqb (length os) 18 && all (λ o. leb o 2) os
 
--- 1, 2 and 3 are checked in that order before all else; 0 when none of them is given
-unfoldable pub checked : Bank → ℕ → List ℕ → Request → Tables → ℕ
+-- BadCall, Damaged and ClockBack are checked in that order before all else
+unfoldable pub checked : Bank → ℕ → List ℕ → Request → Tables → Result (Unit {0}) Refusal
 checked b now os r t =
     cond (well_formed b r && outcomes_fit os)
     (cond (sound b t)
-    (cond (leb (clock_of t) now) 0 3)
-    2)
-    1
+    (cond (leb (clock_of t) now) (Ok tt) (Err ClockBack))
+    (Err Damaged))
+    (Err BadCall)
 
--- after 1, 2 and 3 nothing is changed
+-- after these three nothing is changed
 unfoldable pub serve : Bank → ℕ → List ℕ → Request → Tables → Reply
 serve b now os r t =
-    let n = checked b now os r t in
-    cond (is_zero n) (carry_out b now os r t) (record { report = refused n; page = lent_page r; tables = t; past = false })
+    elim (checked b now os r t) [
+      | Ok u ↦ carry_out b now os r t
+      | Err a ↦ record { report = refused a; page = lent_page r; tables = t; past = false }
+    ]

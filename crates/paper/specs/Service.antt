@@ -1,12 +1,14 @@
 -- The requests on the bytes of the two tables: what is answered, and every byte that is left.
-use Rattle.std.specs.Prelude.{ℕ, Bool, ◌&&◌, cond, List, [], length, replicate, eqb}
+use Rattle.std.specs.Prelude.{ℕ, Bool, ◌&&◌, cond, List, [], length, replicate, eqb, Result, Ok, Err, Some, None}
+use Rattle.paper.specs.declared.Bank.{Bank}
 use Rattle.paper.specs.declared.FileId.{FileId}
 use Rattle.paper.specs.declared.PageId.{PageId}
 use Rattle.paper.specs.declared.PageNum.{PageNum}
-use Rattle.paper.specs.declared.Found.TheVariants.{At, Nothing}
+use Rattle.paper.specs.declared.Refusal.{Refusal}
+use Rattle.paper.specs.declared.Refusal.TheVariants.{BadCall}
 use Rattle.paper.specs.Ids.{null_page_id}
 use Rattle.paper.specs.Lists.{is_zero, lowest}
-use Rattle.paper.specs.Tables.{Bank, HS, fresh, header_at, get_page_id}
+use Rattle.paper.specs.Tables.{HS, fresh, header_at, get_page_id}
 use Rattle.paper.specs.Stores.{has_id}
 use Rattle.paper.specs.Answers.{Request, Read, lent_page, Report, nothing, succeeded, refused}
 use Rattle.paper.specs.Requests.{Reply, carry_out, checked}
@@ -25,25 +27,27 @@ tables_fit b headers pages = eqb (length headers) headers_length && eqb (length 
 abbrev pub written : Reply → Left
 written r = record { report = r.report; page = r.page; headers = header_table r.tables.hs; pages = page_table r.tables.ps }
 
--- 1, 2 or 3: the very same bytes
-abbrev pub untouched : ℕ → List ℕ → List ℕ → List ℕ → Left
-untouched n page headers pages = record { report = refused n; page = page; headers = headers; pages = pages }
+-- refused before all else: the very same bytes
+abbrev pub untouched : Refusal → List ℕ → List ℕ → List ℕ → Left
+untouched a page headers pages = record { report = refused a; page = page; headers = headers; pages = pages }
 
--- the number of the refusal before all else, 0 for none
-unfoldable pub refusal : Bank → ℕ → List ℕ → Request → List ℕ → List ℕ → ℕ
-refusal b now os r headers pages = cond (tables_fit b headers pages) (checked b now os r (tables_from b headers pages)) 1
+-- the refusal before all else, if any
+unfoldable pub refusal : Bank → ℕ → List ℕ → Request → List ℕ → List ℕ → Result (Unit {0}) Refusal
+refusal b now os r headers pages = cond (tables_fit b headers pages) (checked b now os r (tables_from b headers pages)) (Err BadCall)
 
 unfoldable pub serve_bytes : Bank → ℕ → List ℕ → Request → List ℕ → List ℕ → Left
 serve_bytes b now os r headers pages =
-    let n = refusal b now os r headers pages in
-    cond (is_zero n) (written (carry_out b now os r (tables_from b headers pages))) (untouched n (lent_page r) headers pages)
+    elim (refusal b now os r headers pages) [
+      | Ok u ↦ written (carry_out b now os r (tables_from b headers pages))
+      | Err a ↦ untouched a (lent_page r) headers pages
+    ]
 
--- Format takes both tables with any contents and writes next id 1, clock 0 and zeros elsewhere; it gives 0 or 1.
+-- Format takes both tables with any contents and writes next id 1, clock 0 and zeros elsewhere; it gives Success or BadCall.
 unfoldable pub format : Bank → List ℕ → List ℕ → Left
 format b headers pages =
     cond (tables_fit b headers pages)
     (record { report = succeeded nothing; page = []; headers = header_table (fresh b).hs; pages = page_table (fresh b).ps })
-    (untouched 1 [] headers pages)
+    (untouched BadCall [] headers pages)
 
 -- Look answers the page where Read with an all-zero list would be Success; otherwise the caller's blank, whole.
 unfoldable pub look : Bank → ℕ → FileId → PageNum → List ℕ → List ℕ → List ℕ → List ℕ
@@ -53,11 +57,12 @@ look b now id number blank headers pages =
 
 -- the page id that the live header with this id has at the number, NullPageId where there is none
 unfoldable pub named_page : ℕ → FileId → PageNum → HS → PageId
-named_page now id number s = elim (lowest (has_id now id) s.headers) [ At n ↦ get_page_id (header_at s n) number | Nothing ↦ null_page_id ]
+named_page now id number s = elim (lowest (has_id now id) s.headers) [ Some n ↦ get_page_id (header_at s n) number | None ↦ null_page_id ]
 
 -- Where the page lies that Look answers: its slot; NullPageId for the blank.
 unfoldable pub look_slot : Bank → ℕ → FileId → PageNum → List ℕ → List ℕ → PageId
 look_slot b now id number headers pages =
-    cond (is_zero (refusal b now (replicate 18 0) (Read id number (replicate b.size 0)) headers pages))
-    (named_page now id number (hs_from headers))
-    null_page_id
+    elim (refusal b now (replicate 18 0) (Read id number (replicate b.size 0)) headers pages) [
+      | Ok u ↦ named_page now id number (hs_from headers)
+      | Err a ↦ null_page_id
+    ]

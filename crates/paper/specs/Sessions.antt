@@ -1,8 +1,9 @@
 -- The sessions worked by hand, on any bank, and what document 01 says that they print and show.
 use Rattle.std.specs.Prelude.{ℕ, ◌-◌, List, [], ◌∷◌, set, replicate, take}
+use Rattle.paper.specs.declared.Bank.{Bank}
 use Rattle.paper.specs.declared.Header.{Header}
 use Rattle.paper.specs.Ids.{file_id, page_id, page_num}
-use Rattle.paper.specs.Tables.{Bank, Tables, fresh, header_at, put_header}
+use Rattle.paper.specs.Tables.{Tables, fresh, header_at, put_header}
 use Rattle.paper.specs.Answers.{Request, Create, Write, Read, Info, Destroy, SetExpiry, Scavenge, Report}
 use Rattle.paper.specs.Requests.{Reply, serve}
 use Rattle.paper.specs.Bytes.{headers_length, pages_length}

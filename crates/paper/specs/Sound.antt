@@ -1,11 +1,12 @@
 -- S1 to S5, as tests: each of the table that it speaks of, S4 of both.
 use Rattle.std.specs.Prelude.{ℕ, Bool, true, not, ◌&&◌, ◌||◌, cond, List, [], ◌∷◌, ◌++◌, map, leb, ltb}
+use Rattle.paper.specs.declared.Bank.{Bank}
 use Rattle.paper.specs.declared.PageId.{PageId}
 use Rattle.paper.specs.declared.Control.{Control}
 use Rattle.paper.specs.declared.Header.{Header}
 use Rattle.paper.specs.Ids.{no_more_ids}
 use Rattle.paper.specs.Lists.{all, those, distinct, is_zero}
-use Rattle.paper.specs.Tables.{Bank, Slot, HS, PS, Tables, live, slot_at}
+use Rattle.paper.specs.Tables.{Slot, HS, PS, Tables, live, slot_at}
 
 -- S1. Next id is 1 to 2,147,483,648; the control's spare bits are zero.
 unfoldable pub s1 : HS → Bool

@@ -1,31 +1,34 @@
 -- A request is a row of steps; step k takes byte k of the outcome list. Only this file knows outcomes.
-use Rattle.std.specs.Prelude.{ℕ, zero, suc, Bool, true, cond, List, [], ◌∷◌, get_or}
+use Rattle.std.specs.Prelude.{ℕ, zero, suc, Bool, true, false, cond, List, [], ◌∷◌, get_or, Result, Ok, Err}
 use Rattle.paper.specs.declared.PageId.{PageId}
-use Rattle.paper.specs.declared.Step.{Step}
-use Rattle.paper.specs.declared.Step.TheVariants.{Gone, Refused, Cut}
+use Rattle.paper.specs.declared.Refusal.{Refusal}
+use Rattle.paper.specs.declared.Refusal.TheVariants.{BadCall, Damaged, ClockBack, NoSuchFile, NotOwner, NoSuchPage, NoSpace, NoIds, ServiceError, Cut}
 use Rattle.paper.specs.Ids.{page_id}
 use Rattle.paper.specs.Tables.{HS, PS, Tables}
 use Rattle.paper.specs.Stores.{Try, gone, no}
 
--- A step's result, and the store that it leaves.
+-- 0 lets a step go through, 1 is a refusal by its store (ServiceError), 2 power lost before it.
+unfoldable pub allowed : ℕ → Result (Unit {0}) Refusal
+allowed zero = Ok tt
+allowed (suc zero) = Err ServiceError
+allowed (suc (suc o)) = Err Cut
+
+-- A step's result, the number that it went through with or its refusal, and the store that it leaves.
 pub record Done (S : Type 0) : Type 0 where
-  pub step : Step
+  pub step : Result ℕ Refusal
   pub store : S
 
 module _ {S : Type 0} where
-  abbrev pub done : Step → S → Done S
+  abbrev pub done : Result ℕ Refusal → S → Done S
   done r s = record { step = r; store = s }
 
   unfoldable pub tried : Try S → S → Done S
-  tried (gone n s') s = done (Gone n) s'
-  tried (no a) s = done (Refused a) s
+  tried (gone n s') s = done (Ok n) s'
+  tried (no a) s = done (Err a) s
 
-  -- 0 goes through, 1 the store refuses (ServiceError, that step changes nothing), 2 power is lost before it.
-  -- The outcome is looked at before the step's own conditions.
+  -- The outcome is looked at before the step's own conditions; a step that it stops changes nothing.
   unfoldable pub attempt : ℕ → (S → Try S) → S → Done S
-  attempt zero f s = tried (f s) s
-  attempt (suc zero) f s = done (Refused 9) s
-  attempt (suc (suc o)) f s = done Cut s
+  attempt o f s = elim (allowed o) [ Ok u ↦ tried (f s) s | Err a ↦ done (Err a) s ]
 
 -- Each step touches one bank alone.
 unfoldable pub in_headers : Try HS → Tables → Try Tables
@@ -48,10 +51,10 @@ pub record State : Type 0 where
   pub past : Bool
   pub tables : Tables
 
--- It goes on with a value, or has ended with an answer's number.
+-- It goes on with a value, or has ended with a refusal.
 pub data Run (A : Type 0) : Type 0 where
   on : A → State → Run A
-  end : ℕ → State → Run A
+  end : Refusal → State → Run A
 
 abbrev pub Steps : Type 0 → Type 0
 Steps A = List ℕ → State → Run A
@@ -73,15 +76,15 @@ module _ {A : Type 0} where
   unfoldable pub give : A → Steps A
   give a os s = on a s
 
-  unfoldable pub refuse : ℕ → Steps A
+  unfoldable pub refuse : Refusal → Steps A
   refuse n os s = end n s
 
   -- what the tables hold, without a step
   unfoldable pub ask : (Tables → A) → Steps A
   ask f os s = on (f s.tables) s
 
--- the answer a unless the test passes
-unfoldable pub check : Bool → ℕ → Steps ℕ
+-- the refusal a unless the test passes
+unfoldable pub check : Bool → Refusal → Steps ℕ
 check c a = cond c (give 0) (refuse a)
 
 unfoldable pub attempted : (Tables → Try Tables) → List ℕ → State → Done Tables
@@ -91,19 +94,29 @@ abbrev pub stepped : State → Tables → State
 stepped s t = record { taken = suc s.taken; past = s.past; tables = t }
 
 -- At any other step a refusal ends the request.
-unfoldable pub settle : Step → State → Run ℕ
-settle (Gone n) s = on n s
-settle (Refused a) s = end a s
-settle Cut s = end 10 s
+unfoldable pub settle : Result ℕ Refusal → State → Run ℕ
+settle (Ok n) s = on n s
+settle (Err a) s = end a s
 
 unfoldable pub step : (Tables → Try Tables) → Steps ℕ
 step f os s = let d = attempted f os s in settle d.step (stepped s d.store)
 
+abbrev pub is_cut : Refusal → Bool
+is_cut BadCall = false
+is_cut Damaged = false
+is_cut ClockBack = false
+is_cut NoSuchFile = false
+is_cut NotOwner = false
+is_cut NoSuchPage = false
+is_cut NoSpace = false
+is_cut NoIds = false
+is_cut ServiceError = false
+is_cut Cut = true
+
 -- a later refused step is passed over ..; a Cut there is Cut
-unfoldable pub pass_over : Step → State → Run ℕ
-pass_over (Gone n) s = on n s
-pass_over (Refused a) s = on 0 s
-pass_over Cut s = end 10 s
+unfoldable pub pass_over : Result ℕ Refusal → State → Run ℕ
+pass_over (Ok n) s = on n s
+pass_over (Err a) s = cond (is_cut a) (end a s) (on 0 s)
 
 unfoldable pub cleanup : (Tables → Try Tables) → Steps ℕ
 cleanup f os s = let d = attempted f os s in pass_over d.step (stepped s d.store)

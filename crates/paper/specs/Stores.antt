@@ -1,18 +1,20 @@
--- What each step makes of its own store, by the step's own conditions: a slot or id number and the store then, or the answer's number.
-use Rattle.std.specs.Prelude.{ℕ, ◌+◌, Bool, true, ◌&&◌, cond, List, map, eqb, ltb}
+-- What each step makes of its own store, by the step's own conditions: a slot or id number and the store then, or the refusal.
+use Rattle.std.specs.Prelude.{ℕ, ◌+◌, Bool, true, ◌&&◌, cond, List, map, eqb, ltb, Some, None}
+use Rattle.paper.specs.declared.Bank.{Bank}
 use Rattle.paper.specs.declared.FileId.{FileId}
 use Rattle.paper.specs.declared.PageId.{PageId}
 use Rattle.paper.specs.declared.Control.{Control}
 use Rattle.paper.specs.declared.Issued.{Issued}
 use Rattle.paper.specs.declared.Header.{Header}
-use Rattle.paper.specs.declared.Found.TheVariants.{At, Nothing}
+use Rattle.paper.specs.declared.Refusal.{Refusal}
+use Rattle.paper.specs.declared.Refusal.TheVariants.{NoSuchFile, NoSpace, NoIds}
 use Rattle.paper.specs.Ids.{file_id, page_id, no_more_ids}
 use Rattle.paper.specs.Lists.{lowest, count}
-use Rattle.paper.specs.Tables.{Bank, Slot, HS, PS, no_header, no_slot, live, header_free, slot_free, header_expired, slot_expired, slot_at, put_header, with_control, with_headers, put_slot}
+use Rattle.paper.specs.Tables.{Slot, HS, PS, no_header, no_slot, live, header_free, slot_free, header_expired, slot_expired, slot_at, put_header, with_control, with_headers, put_slot}
 
 pub data Try (S : Type 0) : Type 0 where
   gone : ℕ → S → Try S
-  no : ℕ → Try S
+  no : Refusal → Try S
 
 -- Header Store
 
@@ -37,18 +39,18 @@ replace_header n h s =
     let i = issued s.control in
     cond (ltb s.control.next no_more_ids)
     (gone i.id.0 (put_header n (named i.id h) (with_control i.control s)))
-    (no 8)
+    (no NoIds)
 
 -- A create takes the lowest free slot. No free header slot is NoSpace; that comes before NoIds.
 unfoldable pub create_header : ℕ → Header → HS → Try HS
-create_header now h s = elim (lowest (header_free now) s.headers) [ At n ↦ replace_header n h s | Nothing ↦ no 7 ]
+create_header now h s = elim (lowest (header_free now) s.headers) [ Some n ↦ replace_header n h s | None ↦ no NoSpace ]
 
 -- A header is found only by an id in use and live at now.
 abbrev pub has_id : ℕ → FileId → Header → Bool
 has_id now id h = live now h && eqb h.id.0 id.0
 
 unfoldable pub read_header : ℕ → FileId → HS → Try HS
-read_header now id s = elim (lowest (has_id now id) s.headers) [ At n ↦ gone n s | Nothing ↦ no 4 ]
+read_header now id s = elim (lowest (has_id now id) s.headers) [ Some n ↦ gone n s | None ↦ no NoSuchFile ]
 
 -- A destroy writes zeros over the slot.
 unfoldable pub destroy_header : ℕ → HS → Try HS
@@ -66,7 +68,7 @@ full_slot page e = record { used = true; spare = 0; expires = e; contents = page
 
 -- A create takes the lowest free slot and writes all of it.
 unfoldable pub create_page : ℕ → List ℕ → ℕ → PS → Try PS
-create_page now page e ps = elim (lowest (slot_free now) ps) [ At n ↦ gone n (put_slot (page_id n) (full_slot page e) ps) | Nothing ↦ no 7 ]
+create_page now page e ps = elim (lowest (slot_free now) ps) [ Some n ↦ gone n (put_slot (page_id n) (full_slot page e) ps) | None ↦ no NoSpace ]
 
 unfoldable pub read_page : PageId → PS → Try PS
 read_page p ps = gone p.0 ps

@@ -1,16 +1,12 @@
 -- What the two tables hold, as records, and the words that the rules use of them.
 use Rattle.std.specs.Prelude.{ℕ, Bool, false, not, ◌&&◌, ◌||◌, List, get_or, replicate, leb, ltb}
+use Rattle.paper.specs.declared.Bank.{Bank}
 use Rattle.paper.specs.declared.PageId.{PageId}
 use Rattle.paper.specs.declared.PageNum.{PageNum}
 use Rattle.paper.specs.declared.Control.{Control}
 use Rattle.paper.specs.declared.Header.{Header}
 use Rattle.paper.specs.Ids.{null_id, null_page_id}
 use Rattle.paper.specs.Lists.{numbered, put_at}
-
--- A bank of page slots: how many there are, and how many bytes of contents each has.
-pub record Bank : Type 0 where
-  pub slots : ℕ
-  pub size : ℕ
 
 -- 256 page slots; page contents 120 bytes
 abbrev pub standard : Bank

@@ -4,9 +4,10 @@ use mathlib.Core.Bool.{Bool, true, ◌&&◌, cond}
 use mathlib.Core.List.{List, [], ◌∷◌}
 use lib.Dec.{leb}
 use lib.ListN.{set}
+use Rattle.paper.specs.declared.Bank.{Bank}
 use Rattle.paper.specs.declared.Header.{Header}
 use Rattle.paper.specs.Ids.{file_id, page_id, page_num}
-use Rattle.paper.specs.Tables.{Bank, Slot, Tables, no_header, no_slot, no_pages, clock_of}
+use Rattle.paper.specs.Tables.{Slot, Tables, no_header, no_slot, no_pages, clock_of}
 use Rattle.paper.specs.Sound.{sound}
 use Rattle.paper.specs.Answers.{Request, Create, Write, Read, Info, Destroy, SetExpiry, Scavenge}
 use Rattle.paper.specs.Requests.{carry_out, well_formed}

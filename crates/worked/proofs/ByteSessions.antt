@@ -2,7 +2,7 @@
 use Prim.Native.Nat.{ℕ}
 use mathlib.Core.Path.{◌≡◌, refl}
 use mathlib.Core.List.{List, map, zip_with}
-use Rattle.paper.specs.Tables.{Bank}
+use Rattle.paper.specs.declared.Bank.{Bank}
 use Rattle.paper.specs.Service.{Left}
 use Rattle.paper.specs.Sessions.{Call, sessions, shown, run_bytes, formatted, shows}
 use Rattle.paper.proofs.Computing.{computing}
