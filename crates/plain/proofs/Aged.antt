@@ -7,11 +7,12 @@ use mathlib.Core.Bool.{Bool, true, cond}
 use mathlib.Core.List.{List, [], ◌∷◌}
 use native.Mathlib.Omega.{arith}
 use lib.ListN.{get_or}
+use Rattle.paper.specs.declared.Bank.{Bank}
 use Rattle.paper.specs.declared.PageId.{PageId}
 use Rattle.paper.specs.declared.Header.{Header}
 use Rattle.paper.specs.Ids.{page_id, null_page_id}
 use Rattle.paper.specs.Lists.{is_zero, put_at}
-use Rattle.paper.specs.Tables.{Bank, Slot, HS, Tables, no_slot, header_at}
+use Rattle.paper.specs.Tables.{Slot, HS, Tables, no_slot, header_at}
 use Rattle.paper.specs.Sound.{slot_sound, zero_slot}
 use Rattle.paper.specs.Stores.{expiring, set_page_expiry}
 use Rattle.paper.specs.Steps.{step, cleanup, each_page, on_pages, in_pages}

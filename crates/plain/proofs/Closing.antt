@@ -7,9 +7,11 @@ use mathlib.Core.List.{List}
 use native.Mathlib.Omega.{arith}
 use borrow.Author.Tests.{le-leb, lt-leb, ne_eqb}
 use lib.Dec.{eqb}
-use Rattle.paper.specs.Tables.{Bank, Tables, with_clock}
+use Rattle.paper.specs.declared.Bank.{Bank}
+use Rattle.paper.specs.declared.Refusal.{Refusal}
+use Rattle.paper.specs.Tables.{Tables, with_clock}
 use Rattle.paper.specs.Steps.{Run, on, end, State}
-use Rattle.paper.specs.Answers.{Request, lent_page, Gift, nothing, an_id, facts, counts, contents, succeeded, page_after}
+use Rattle.paper.specs.Answers.{Request, lent_page, Gift, nothing, an_id, facts, counts, contents, succeeded, number_of, page_after}
 use Rattle.paper.specs.Requests.{well_formed, reply_of, steps_of, carry_out}
 use Rattle.paper.specs.Plain.{passed, told, plain}
 use Rattle.paper.specs.View.{view, carried, beside}
@@ -53,25 +55,25 @@ module _ (b : Bank) (now : ℕ) (q : Request) (t : Tables) where
         success = λ _. rw w.right (record { number = a.theirs; id = a.id; facts = a.facts; page = a.page });
       }
 
-  ended_kept : (n : ℕ) (s : State) → Ended (job_of b now q t) n s.past s.tables → Kept b now q t (reply_of (lent_page q) (end n s))
+  ended_kept : (a : Refusal) (s : State) → Ended (job_of b now q t) a s.past s.tables → Kept b now q t (reply_of (lent_page q) (end a s))
   unfolding reply_of beside carried plain told
-  ended_kept n s e = go e.phase e.may e.stands
+  ended_kept a s e = go e.phase e.may e.stands
     where
-      go : (p : Phase) → MayEnd p n → Stands (job_of b now q t) p Anything s.past s.tables → Kept b now q t (reply_of (lent_page q) (end n s))
+      go : (p : Phase) → MayEnd p a → Stands (job_of b now q t) p Anything s.past s.tables → Kept b now q t (reply_of (lent_page q) (end a s))
       go Phase.waits m w = record {
         sound = facts_sound b s.tables w.shows.facts;
-        shown = rw (le-leb 1 n (omega arith), lt-leb n 3 (omega arith), ne_eqb n 0 (omega arith), w.past, and-false (eqb n 10)) w.shows.right;
+        shown = rw (le-leb 1 (number_of a) (omega arith), lt-leb (number_of a) 3 (omega arith), ne_eqb (number_of a) 0 (omega arith), w.past, and-false (eqb (number_of a) 10)) w.shows.right;
         success = λ z. absurd (omega arith);
       }
       go (Phase.done g) m w = record {
         sound = facts_sound b s.tables w.shows.facts;
         shown = rw (m, w.past, w.shows.right);
-        success = λ z. absurd (omega arith);
+        success = λ z. absurd (omega (arith, rw m at z));
       }
 
   run_kept : (r : Run Gift) → Ends (Ended (job_of b now q t)) (Given (job_of b now q t)) r → Kept b now q t (reply_of (lent_page q) r)
   run_kept (on g s) w = given_kept g s w
-  run_kept (end n s) w = ended_kept n s w
+  run_kept (end a s) w = ended_kept a s w
 
 -- a row of steps that goes from waiting to what it gives
 abbrev pub Row : Job → Type 0

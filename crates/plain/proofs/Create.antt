@@ -4,16 +4,17 @@ use Prim.Native.Nat.{ℕ, ◌≤◌}
 use mathlib.Core.Path.{◌≡◌, refl, sym, ap, subst⁻¹, ◌∙◌}
 use mathlib.Core.Bool.{true, true≢false}
 use mathlib.Core.List.{List}
-use mathlib.Core.Option.{none}
+use Rattle.std.specs.Prelude.{None}
 use native.Mathlib.Omega.{arith}
 use borrow.Author.Tests.{leb-true, lt-leb}
 use lib.ListN.{length, get_or}
 use lib.Dec.{leb, eqb}
+use Rattle.paper.specs.declared.Bank.{Bank}
 use Rattle.paper.specs.declared.PageId.{PageId}
 use Rattle.paper.specs.declared.PageNum.{PageNum}
 use Rattle.paper.specs.declared.Header.{Header}
 use Rattle.paper.specs.Ids.{file_id, page_id, null_page_id, later}
-use Rattle.paper.specs.Tables.{Bank, Tables, no_pages, no_header, clock_of, header_at, header_free}
+use Rattle.paper.specs.Tables.{Tables, no_pages, no_header, clock_of, header_at, header_free}
 use Rattle.paper.specs.Stores.{create_header}
 use Rattle.paper.specs.Steps.{on_headers, in_headers}
 use Rattle.paper.specs.Answers.{Create, an_id}
@@ -62,7 +63,7 @@ module _ (b : Bank) (now client : ℕ) (number : PageNum) (page : List ℕ) (exp
   abbrev j : Job
   j = job_of b now (Create client number page expires) t₀
 
-  blank : (t : Tables) (k : PageNum) → page_shown b t.ps (page_id (get_or no_pages k.0 null_page_id).0) ≡ none
+  blank : (t : Tables) (k : PageNum) → page_shown b t.ps (page_id (get_or no_pages k.0 null_page_id).0) ≡ None
   blank t k = ap (λ y. page_shown b t.ps (page_id y)) (no_page k.0)
 
   abbrev header : Tables → Header
@@ -71,7 +72,7 @@ module _ (b : Bank) (now client : ℕ) (number : PageNum) (page : List ℕ) (exp
   stores_at : (p : ℕ) (t : Tables) → Shows j Phase.waits t → Made b p (later expires (clock_of t)) page t → Search (header_free (clock_of t)) no_header t.hs.headers
       → Makes (λ i t'. Shows j (Phase.done (an_id (file_id i))) t' × Anything t') (on_headers (create_header (clock_of t) (put_page_id (clock_of t) number (page_id p) (header t))) t)
   unfolding deed plain_create view in_headers
-  stores_at p t s m (Search.missed g _) = rw (header_none (clock_of t) t.hs (put_page_id (clock_of t) number (page_id p) (header t)) g) (omega arith, omega arith)
+  stores_at p t s m (Search.missed g _) = rw (header_none (clock_of t) t.hs (put_page_id (clock_of t) number (page_id p) (header t)) g) (omega arith)
   stores_at p t s m (Search.found n g lo hi q) =
       let late : clock_of t ≤ later expires (clock_of t) = omega arith in
       let made = made_storable b t client n number.0 p (later expires (clock_of t)) lo hi late in

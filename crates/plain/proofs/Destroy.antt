@@ -3,11 +3,12 @@
 use Prim.Native.Nat.{ℕ}
 use mathlib.Core.Path.{◌≡◌, refl, sym, ap, subst, ◌∙◌}
 use mathlib.Core.Bool.{cond}
-use mathlib.Core.Option.{none}
+use Rattle.std.specs.Prelude.{None}
 use lib.Dec.{eqb}
+use Rattle.paper.specs.declared.Bank.{Bank}
 use Rattle.paper.specs.declared.FileId.{FileId}
 use Rattle.paper.specs.declared.Header.{Header}
-use Rattle.paper.specs.Tables.{Bank, Tables, no_header, header_at}
+use Rattle.paper.specs.Tables.{Tables, no_header, header_at}
 use Rattle.paper.specs.Stores.{destroy_header}
 use Rattle.paper.specs.Steps.{on_headers, in_headers}
 use Rattle.paper.specs.Answers.{Destroy, nothing}
@@ -39,7 +40,7 @@ module _ (b : Bank) (now client : ℕ) (id : FileId) (t₀ : Tables) where
     ok = zeros_allowed b t n s.facts live.used
 
     -- the file is taken away
-    files : (x : FileId) → files_of b t' x ≡ cond (eqb x.0 id.0) none (files_of b t x)
+    files : (x : FileId) → files_of b t' x ≡ cond (eqb x.0 id.0) None (files_of b t x)
     files x = header_files b t n no_header t.hs.control.next s.facts ok x ∙ without_found t s w.0 x
 
     loose : AllLoose b (header_at t.hs n).pages t'

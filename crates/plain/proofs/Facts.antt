@@ -7,11 +7,12 @@ use mathlib.Core.Bool.{true, false, true≢false}
 use borrow.Author.Tests.{ltb-true, lt-ltb}
 use lib.ListN.{length, get_or}
 use lib.Dec.{ltb}
+use Rattle.paper.specs.declared.Bank.{Bank}
 use Rattle.paper.specs.declared.Control.{Control}
 use Rattle.paper.specs.declared.Header.{Header}
 use Rattle.paper.specs.Ids.{null_page_id, no_more_ids}
 use Rattle.paper.specs.Lists.{numbered}
-use Rattle.paper.specs.Tables.{Bank, Slot, PS, Tables, no_header, no_slot, clock_of, header_at, live}
+use Rattle.paper.specs.Tables.{Slot, PS, Tables, no_header, no_slot, clock_of, header_at, live}
 use Rattle.paper.specs.Sound.{zero_header, slot_sound}
 use Rattle.paper.proofs.Tests.{both}
 use Rattle.plain.proofs.Lists.{numbered_in}

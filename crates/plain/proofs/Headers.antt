@@ -4,14 +4,15 @@ use Prim.Native.Nat.{ℕ, ◌≤◌}
 use mathlib.Core.Path.{◌≡◌, refl, sym, ◌∙◌}
 use mathlib.Core.Logic.{◌≢◌}
 use mathlib.Core.Bool.{Bool, true, false, cond, true≢false}
-use mathlib.Core.Option.{Option, none, some}
+use Rattle.std.specs.Prelude.{Option, Some, None}
 use native.Mathlib.Omega.{arith}
 use lib.ListN.{length}
+use Rattle.paper.specs.declared.Bank.{Bank}
 use Rattle.paper.specs.declared.FileId.{FileId}
 use Rattle.paper.specs.declared.Control.{Control}
 use Rattle.paper.specs.declared.Header.{Header}
 use Rattle.paper.specs.Ids.{no_more_ids}
-use Rattle.paper.specs.Tables.{Bank, Tables, no_header, clock_of, header_at, put_header, with_control}
+use Rattle.paper.specs.Tables.{Tables, no_header, clock_of, header_at, put_header, with_control}
 use Rattle.paper.specs.Stores.{has_id}
 use Rattle.paper.specs.Plain.{File}
 use Rattle.paper.specs.View.{file_shown}
@@ -42,7 +43,7 @@ pub record Allowed (b : Bank) (t : Tables) (n : ℕ) (h : Header) (next : ℕ) :
 -- the files once header n is h
 abbrev pub files_after : Bank → Tables → ℕ → Header → FileId → Option File
 files_after b t n h x =
-    cond (has_id (clock_of t) x h) (some (file_shown b t.ps h)) (cond (has_id (clock_of t) x (header_at t.hs n)) none (files_of b t x))
+    cond (has_id (clock_of t) x h) (Some (file_shown b t.ps h)) (cond (has_id (clock_of t) x (header_at t.hs n)) None (files_of b t x))
 
 module _ (b : Bank) (t : Tables) (n : ℕ) (h : Header) (next : ℕ) (f : Facts b t) (a : Allowed b t n h next) where
   abbrev t' : Tables
@@ -86,7 +87,7 @@ module _ (b : Bank) (t : Tables) (n : ℕ) (h : Header) (next : ℕ) (f : Facts 
       here : header_at t'.hs n ≡ h
       here = put_here no_header t.hs.headers n h a.low a.high
 
-      nobody : has_id (clock_of t) x h ≡ false → ((j : ℕ) → j ≢ n → Hit (clock_of t) x (header_at t.hs j) → ⊥) → files_of b t' x ≡ none
+      nobody : has_id (clock_of t) x h ≡ false → ((j : ℕ) → j ≢ n → Hit (clock_of t) x (header_at t.hs j) → ⊥) → files_of b t' x ≡ None
       nobody e g = files_none b t' x (at_put no_header t.hs.headers n h a.low a.high (λ j y. Hit (clock_of t) x y → ⊥) (miss_facts _ x h e) g)
 
       go : (u : Bool) → has_id (clock_of t) x h ≡ u → (v : Bool) → has_id (clock_of t) x (header_at t.hs n) ≡ v → Look t x → files_of b t' x ≡ files_after b t n h x

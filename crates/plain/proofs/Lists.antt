@@ -9,7 +9,7 @@ use native.Mathlib.Decide.{ℕ_discrete, dec_le}
 use native.Mathlib.Omega.{arith}
 use lib.ListN.{length, get_or, set, replicate, length-set, get_or-map, get_or-eq_default}
 use lib.Seq.{get_or-set_same, get_or-set_other}
-use Rattle.paper.specs.declared.Found.TheVariants.{At, Nothing}
+use Rattle.std.specs.Prelude.{Some, None}
 use Rattle.paper.proofs.Tests.{both}
 use Rattle.paper.specs.Lists.{all, lowest_from, lowest, numbered, put_at}
 
@@ -38,8 +38,8 @@ module _ {A : Type 0} (f : A → Bool) (d : A) where
 
   -- what a search finds: the first that passes, or that none does
   data SearchFrom (k : ℕ) (xs : List A) : Type 0 where
-    found : (i : ℕ) → lowest_from f k xs ≡ At (k + i) → i < length xs → f (get_or xs i d) ≡ true → SearchFrom k xs
-    missed : lowest_from f k xs ≡ Nothing → ((i : ℕ) → i < length xs → f (get_or xs i d) ≡ false) → SearchFrom k xs
+    found : (i : ℕ) → lowest_from f k xs ≡ Some (k + i) → i < length xs → f (get_or xs i d) ≡ true → SearchFrom k xs
+    missed : lowest_from f k xs ≡ None → ((i : ℕ) → i < length xs → f (get_or xs i d) ≡ false) → SearchFrom k xs
 
   search_from : (k : ℕ) (xs : List A) → SearchFrom k xs
   unfolding lowest_from
@@ -47,10 +47,10 @@ module _ {A : Type 0} (f : A → Bool) (d : A) where
   search_from k (x ∷ xs) = go (f x) refl (search_from (suc k) xs)
     where
       go : (b : Bool) → f x ≡ b → SearchFrom (suc k) xs → SearchFrom k (x ∷ xs)
-      go true e r = let z : k ≡ k + 0 = omega arith in found 0 (rw e (λ i. At (z i))) (omega arith) e
+      go true e r = let z : k ≡ k + 0 = omega arith in found 0 (rw e (λ i. Some (z i))) (omega arith) e
       go false e (found i g h p) =
           let z : suc k + i ≡ k + suc i = omega arith in
-          found (suc i) (rw (e, g) (λ j. At (z j))) (omega arith) p
+          found (suc i) (rw (e, g) (λ j. Some (z j))) (omega arith) p
       go false e (missed g h) = missed (rw (e, g)) below
         where
           below : (i : ℕ) → i < suc (length xs) → f (get_or (x ∷ xs) i d) ≡ false
@@ -58,8 +58,8 @@ module _ {A : Type 0} (f : A → Bool) (d : A) where
           below (suc i) l = h i (omega arith)
 
   pub data Search (xs : List A) : Type 0 where
-    found : (n : ℕ) → lowest f xs ≡ At n → 1 ≤ n → n ≤ length xs → f (numbered d xs n) ≡ true → Search xs
-    missed : lowest f xs ≡ Nothing → ((n : ℕ) → 1 ≤ n → n ≤ length xs → f (numbered d xs n) ≡ false) → Search xs
+    found : (n : ℕ) → lowest f xs ≡ Some n → 1 ≤ n → n ≤ length xs → f (numbered d xs n) ≡ true → Search xs
+    missed : lowest f xs ≡ None → ((n : ℕ) → 1 ≤ n → n ≤ length xs → f (numbered d xs n) ≡ false) → Search xs
 
   pub search_of : (xs : List A) → Search xs
   unfolding numbered
@@ -68,7 +68,7 @@ module _ {A : Type 0} (f : A → Bool) (d : A) where
       go : SearchFrom 1 xs → Search xs
       go (SearchFrom.found i g h p) =
           let z : 1 + i ≡ suc i = omega arith in
-          Search.found (suc i) (g ∙ λ j. At (z j)) (omega arith) h p
+          Search.found (suc i) (g ∙ λ j. Some (z j)) (omega arith) h p
       go (SearchFrom.missed g h) = Search.missed g below
         where
           below : (n : ℕ) → 1 ≤ n → n ≤ length xs → f (numbered d xs n) ≡ false

@@ -4,40 +4,41 @@ use Prim.Native.Nat.{ℕ, zero, suc}
 use mathlib.Core.Path.{◌≡◌, refl}
 use mathlib.Core.Bool.{Bool, true, false, cond}
 use mathlib.Core.List.{List, [], ◌∷◌}
+use Rattle.std.specs.Prelude.{Result, Ok, Err}
 use lib.ListN.{get_or}
 use Rattle.paper.specs.declared.PageId.{PageId}
-use Rattle.paper.specs.declared.Step.{Step}
-use Rattle.paper.specs.declared.Step.TheVariants.{Gone, Refused, Cut}
+use Rattle.paper.specs.declared.Refusal.{Refusal}
+use Rattle.paper.specs.declared.Refusal.TheVariants.{ServiceError, Cut}
 use Rattle.paper.specs.Ids.{page_id, null_page_id}
 use Rattle.paper.specs.Tables.{HS, Tables}
 use Rattle.paper.specs.Stores.{Try, gone, no}
 use Rattle.paper.specs.Steps
-use Rattle.paper.specs.Steps.{Run, on, end, Steps, State, follow, give, refuse, ask, check, attempt, attempted, tried, settle, step, pass_over, cleanup, marked, header_step, on_headers, each_page, stepped}
+use Rattle.paper.specs.Steps.{Run, on, end, Steps, State, follow, give, refuse, ask, check, allowed, attempt, attempted, tried, settle, step, pass_over, cleanup, marked, header_step, on_headers, each_page, stepped}
 
 -- what is claimed of a request where it stands: of whether its header step has gone through, and of the tables
 abbrev pub Claim : Type 1
 Claim = Bool → Tables → Type 0
 
-abbrev pub Ends : {A : Type 0} → (ℕ → Claim) → (A → Claim) → Run A → Type 0
+abbrev pub Ends : {A : Type 0} → (Refusal → Claim) → (A → Claim) → Run A → Type 0
 Ends E Q (on a s) = Q a s.past s.tables
-Ends E Q (end n s) = E n s.past s.tables
+Ends E Q (end a s) = E a s.past s.tables
 
-pub record Does {A : Type 0} (E : ℕ → Claim) (P : Claim) (m : Steps A) (Q : A → Claim) : Type 0 where
+pub record Does {A : Type 0} (E : Refusal → Claim) (P : Claim) (m : Steps A) (Q : A → Claim) : Type 0 where
   pub run : (os : List ℕ) (s : State) → P s.past s.tables → Ends E Q (m os s)
 
-followed : {A B : Type 0} {E : ℕ → Claim} {Q : A → Claim} {R : B → Claim} (r : Run A) (os : List ℕ) (f : A → Steps B)
+followed : {A B : Type 0} {E : Refusal → Claim} {Q : A → Claim} {R : B → Claim} (r : Run A) (os : List ℕ) (f : A → Steps B)
     → Ends E Q r → ((a : A) → Does E (Q a) (f a) R) → Ends E R (follow r os f)
 unfolding follow
 followed (on a s) os f p d = (d a).run os s p
-followed (end n s) os f p d = p
+followed (end a s) os f p d = p
 
 -- what holds after each way in which a step can come out holds after the step, whatever k makes of it
-outcomes : (W : Run ℕ → Type 0) (k : Step → State → Run ℕ) (f : Tables → Try Tables) (os : List ℕ) (s : State)
-    → ((n : ℕ) (t : Tables) → f s.tables ≡ gone n t → W (k (Gone n) (stepped s t)))
-    → ((a : ℕ) → f s.tables ≡ no a → W (k (Refused a) (stepped s s.tables)))
-    → W (k (Refused 9) (stepped s s.tables)) → W (k Cut (stepped s s.tables))
+outcomes : (W : Run ℕ → Type 0) (k : Result ℕ Refusal → State → Run ℕ) (f : Tables → Try Tables) (os : List ℕ) (s : State)
+    → ((n : ℕ) (t : Tables) → f s.tables ≡ gone n t → W (k (Ok n) (stepped s t)))
+    → ((a : Refusal) → f s.tables ≡ no a → W (k (Err a) (stepped s s.tables)))
+    → W (k (Err ServiceError) (stepped s s.tables)) → W (k (Err Cut) (stepped s s.tables))
     → W (k (attempted f os s).step (stepped s (attempted f os s).store))
-unfolding attempted attempt tried
+unfolding attempted attempt allowed tried
 outcomes W k f os s through own refused cut = go (get_or os s.taken 0)
   where
     by : (r : Try Tables) → f s.tables ≡ r → W (k (tried r s.tables).step (stepped s (tried r s.tables).store))
@@ -49,7 +50,13 @@ outcomes W k f os s through own refused cut = go (get_or os s.taken 0)
     go (suc zero) = refused
     go (suc (suc o)) = cut
 
-module _ {E : ℕ → Claim} where
+-- of a refusal only Cut is not passed over
+passed_over : (W : Run ℕ → Type 0) (a : Refusal) (s : State) → W (end Cut s) → W (on 0 s) → W (pass_over (Err a) s)
+unfolding pass_over
+passed_over W Cut s cut over = cut
+passed_over W _ s cut over = over
+
+module _ {E : Refusal → Claim} where
   module _ {A B : Type 0} {P : Claim} {R : B → Claim} {m : Steps A} where
     infixl 10 ◌>>=◌
     pub ◌>>=◌ : {Q : A → Claim} {f : A → Steps B} → Does E P m Q → ((a : A) → Does E (Q a) (f a) R) → Does E P (Steps.◌>>=◌ m f) R
@@ -71,15 +78,15 @@ module _ {E : ℕ → Claim} where
       where
         go : (r : Run A) → Ends E Q r → Ends E Q' r
         go (on a s) p = f a s.past s.tables p
-        go (end n s) p = p
+        go (end a s) p = p
 
     pub gives : (a : A) → ((u : Bool) (t : Tables) → P u t → Q a u t) → Does E P (give a) Q
     unfolding give
     gives a f = record { run = λ os s p. f s.past s.tables p }
 
-    pub refuses : (n : ℕ) → ((u : Bool) (t : Tables) → P u t → E n u t) → Does E P (refuse n) Q
+    pub refuses : (a : Refusal) → ((u : Bool) (t : Tables) → P u t → E a u t) → Does E P (refuse a) Q
     unfolding refuse
-    refuses n f = record { run = λ os s p. f s.past s.tables p }
+    refuses a f = record { run = λ os s p. f s.past s.tables p }
 
     pub asks : (f : Tables → A) → ((u : Bool) (t : Tables) → P u t → Q (f t) u t) → Does E P (ask f) Q
     unfolding ask
@@ -91,15 +98,15 @@ module _ {E : ℕ → Claim} where
     chooses false f g = g refl
 
   module _ {P : Claim} {Q : ℕ → Claim} where
-    pub checks : (c : Bool) (a : ℕ) → (c ≡ true → (u : Bool) (t : Tables) → P u t → Q 0 u t)
+    pub checks : (c : Bool) (a : Refusal) → (c ≡ true → (u : Bool) (t : Tables) → P u t → Q 0 u t)
         → (c ≡ false → (u : Bool) (t : Tables) → P u t → E a u t) → Does E P (check c a) Q
     unfolding check
     checks c a f g = chooses c (λ e. gives 0 (f e)) (λ e. refuses a (g e))
 
     -- through: the step's own conditions let it go on; own: they refuse it; refused, cut: its outcome does
     module _ (f : Tables → Try Tables) (through : (u : Bool) (t : Tables) (n : ℕ) (t' : Tables) → P u t → f t ≡ gone n t' → Q n u t')
-        (cut : (u : Bool) (t : Tables) → P u t → E 10 u t) where
-      pub steps : ((u : Bool) (t : Tables) (a : ℕ) → P u t → f t ≡ no a → E a u t) → ((u : Bool) (t : Tables) → P u t → E 9 u t) → Does E P (step f) Q
+        (cut : (u : Bool) (t : Tables) → P u t → E Cut u t) where
+      pub steps : ((u : Bool) (t : Tables) (a : Refusal) → P u t → f t ≡ no a → E a u t) → ((u : Bool) (t : Tables) → P u t → E ServiceError u t) → Does E P (step f) Q
       unfolding step settle
       steps own refused = record {
         run = λ os s p. outcomes (Ends E Q) settle f os s (λ n t e. through s.past s.tables n t p e) (λ a e. own s.past s.tables a p e)
@@ -110,7 +117,8 @@ module _ {E : ℕ → Claim} where
       pub cleanups : ((u : Bool) (t : Tables) → P u t → Q 0 u t) → Does E P (cleanup f) Q
       unfolding cleanup pass_over
       cleanups over = record {
-        run = λ os s p. outcomes (Ends E Q) pass_over f os s (λ n t e. through s.past s.tables n t p e) (λ a e. over s.past s.tables p)
+        run = λ os s p. outcomes (Ends E Q) pass_over f os s (λ n t e. through s.past s.tables n t p e)
+            (λ a e. passed_over (Ends E Q) a (stepped s s.tables) (cut s.past s.tables p) (over s.past s.tables p))
             (over s.past s.tables p) (cut s.past s.tables p);
       }
 
@@ -121,7 +129,7 @@ module _ {E : ℕ → Claim} where
       where
         go : (r : Run ℕ) → Ends E (λ n u t. Q n true t) r → Ends E Q (marked r)
         go (on n s) p = p
-        go (end n s) p = p
+        go (end a s) p = p
 
   -- each page id but 0 in its turn; P says what holds with these page ids still to come
   pub each : (P : List PageId → Claim) (f : PageId → Steps ℕ) → ((k : ℕ) (ps : List PageId) → Does E (P (page_id (suc k) ∷ ps)) (f (page_id (suc k))) (λ n. P ps))

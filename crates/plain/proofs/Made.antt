@@ -5,16 +5,17 @@ use mathlib.Core.Path.{◌≡◌, refl, ◌∙◌}
 use mathlib.Core.Logic.{◌≢◌}
 use mathlib.Core.Bool.{cond}
 use mathlib.Core.List.{List}
-use mathlib.Core.Option.{some}
+use Rattle.std.specs.Prelude.{Some}
 use native.Mathlib.Omega.{arith}
 use borrow.Author.Tests.{eq-eqb, ne_eqb}
 use lib.ListN.{length-set}
 use lib.Dec.{eqb}
+use Rattle.paper.specs.declared.Bank.{Bank}
 use Rattle.paper.specs.declared.PageId.{PageId}
 use Rattle.paper.specs.declared.PageNum.{PageNum}
 use Rattle.paper.specs.declared.Header.{Header}
 use Rattle.paper.specs.Ids.{page_id, null_page_id}
-use Rattle.paper.specs.Tables.{Bank, HS, Tables, no_slot, clock_of, slot_free}
+use Rattle.paper.specs.Tables.{HS, Tables, no_slot, clock_of, slot_free}
 use Rattle.paper.specs.Sound.{slot_sound}
 use Rattle.paper.specs.Stores.{full_slot, create_page}
 use Rattle.paper.specs.Steps.{step, on_pages, in_pages}
@@ -47,7 +48,7 @@ module _ (b : Bank) (X : HS → Type 0) (page : List ℕ) (e : ℕ) where
       let there = put_here (no_slot b) t.ps p (full_slot page e) lo hi in
       rw (page_at_lem (clock_of t) e page t.ps p g)
       (slot_same b t p (full_slot page e) f lo top refl (unnamed_fits b t p (full_slot page e) un), (x, record { low = lo; high = top; unnamed = un; there = there }))
-  made t f x (Search.missed g h) = rw (page_none (clock_of t) e page t.ps g) (omega arith, omega arith)
+  made t f x (Search.missed g h) = rw (page_none (clock_of t) e page t.ps g) (omega arith)
 
 pub makes_page : {j : Job} (X : HS → Type 0) (page : List ℕ) (e : ℕ)
     → Before j (λ t. X t.hs) (step (on_pages (create_page j.now page e))) (λ p t. X t.hs × Made j.bank p e page t)
@@ -79,8 +80,8 @@ module _ (b : Bank) (t : Tables) (n p : ℕ) (number : PageNum) (page : List ℕ
         (λ k ne. s.backed (record { used = l.used; until = l.until }) k);
   }
 
-  page_shown_lem : (k : ℕ) → page_shown b t.ps (page_id (page_at h' k)) ≡ cond (eqb k number.0) (some page) (page_shown b t.ps (page_id (page_at h k)))
-  page_shown_lem = at_pages (λ k y. page_shown b t.ps (page_id y) ≡ cond (eqb k number.0) (some page) (page_shown b t.ps (page_id (page_at h k))))
+  page_shown_lem : (k : ℕ) → page_shown b t.ps (page_id (page_at h' k)) ≡ cond (eqb k number.0) (Some page) (page_shown b t.ps (page_id (page_at h k)))
+  page_shown_lem = at_pages (λ k y. page_shown b t.ps (page_id y) ≡ cond (eqb k number.0) (Some page) (page_shown b t.ps (page_id (page_at h k))))
       (rw (eq-eqb number.0 number.0 refl, ne_eqb p 0 (omega (arith, m.low)), m.there))
       (λ k ne. rw (ne_eqb k number.0 ne))
 

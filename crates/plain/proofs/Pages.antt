@@ -4,15 +4,16 @@ use Prim.Native.Nat.{ℕ, ◌≤◌}
 use mathlib.Core.Path.{◌≡◌, refl, sym, ap, ◌∙◌}
 use mathlib.Core.Logic.{◌≢◌}
 use mathlib.Core.Bool.{true, true≢false}
-use mathlib.Core.Option.{some}
+use Rattle.std.specs.Prelude.{Some}
 use native.Mathlib.Decide.{ℕ_discrete}
 use native.Mathlib.Omega.{arith}
 use borrow.Author.Tests.{lt-leb}
 use lib.ListN.{length}
+use Rattle.paper.specs.declared.Bank.{Bank}
 use Rattle.paper.specs.declared.FileId.{FileId}
 use Rattle.paper.specs.Ids.{page_id}
 use Rattle.paper.specs.Lists.{put_at}
-use Rattle.paper.specs.Tables.{Bank, Slot, PS, Tables, no_slot, clock_of, header_at, slot_free}
+use Rattle.paper.specs.Tables.{Slot, PS, Tables, no_slot, clock_of, header_at, slot_free}
 use Rattle.paper.specs.Sound.{slot_sound}
 use Rattle.paper.specs.Requests.{facts_of}
 use Rattle.paper.specs.View.{page_shown, file_shown, view}
@@ -57,7 +58,7 @@ module _ (b : Bank) (t : Tables) (ps : PS) (f : Facts b t) (count : length ps �
       file i l = λ j. record { facts = facts_of (header_at t.hs i); pages = λ n. page i n.0 l (ℕ_discrete (page_in t i n.0) 0) j }
 
       go : (x : FileId) → Look t x → files_of b (with_pages ps t) x ≡ files_of b t x
-      go x (Look.at n e q) = rw e (ap some (file n q.live))
+      go x (Look.at n e q) = rw e (ap Some (file n q.live))
       go x (Look.nowhere e h) = rw e
 
   pub pages_same : Same b t (with_pages ps t)

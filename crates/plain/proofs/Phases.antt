@@ -5,10 +5,13 @@ use Prim.Native.Nat.{ℕ, ◌≤◌}
 use mathlib.Core.Path.{◌≡◌, refl, ap, subst, subst⁻¹, ◌∙◌}
 use mathlib.Core.Bool.{Bool, true, false}
 use native.Mathlib.Omega.{arith}
-use Rattle.paper.specs.Tables.{Bank, HS, Tables, clock_of}
+use Rattle.paper.specs.declared.Bank.{Bank}
+use Rattle.paper.specs.declared.Refusal.{Refusal}
+use Rattle.paper.specs.declared.Refusal.TheVariants.{ServiceError, Cut}
+use Rattle.paper.specs.Tables.{HS, Tables, clock_of}
 use Rattle.paper.specs.Stores.{Try, gone, no}
 use Rattle.paper.specs.Steps.{Steps, ask, check, step, cleanup, header_step, on_headers}
-use Rattle.paper.specs.Answers.{Request, Gift, nothing, an_id, facts, counts, contents}
+use Rattle.paper.specs.Answers.{Request, Gift, nothing, an_id, facts, counts, contents, number_of}
 use Rattle.paper.specs.Plain.{Plain, does, deed}
 use Rattle.paper.specs.View.{view}
 use Rattle.plain.proofs.Facts.{Facts}
@@ -48,14 +51,14 @@ pub record Stands (j : Job) (p : Phase) (X : Tables → Type 0) (u : Bool) (t : 
 abbrev pub Anything : Tables → Type 0
 Anything t = Unit {0}
 
--- a request that waits may be refused or cut; one that is carried out can only be cut
-abbrev pub MayEnd : Phase → ℕ → Type 0
-MayEnd waits n = (4 ≤ n) × (n ≤ 10)
-MayEnd (done g) n = n ≡ 10
+-- a request that waits may be refused, but not by what is checked before all else, or cut; one that is carried out can only be cut
+abbrev pub MayEnd : Phase → Refusal → Type 0
+MayEnd waits a = 4 ≤ number_of a
+MayEnd (done g) a = a ≡ Cut
 
-pub record Ended (j : Job) (n : ℕ) (u : Bool) (t : Tables) : Type 0 where
+pub record Ended (j : Job) (a : Refusal) (u : Bool) (t : Tables) : Type 0 where
   pub phase : Phase
-  pub may : MayEnd phase n
+  pub may : MayEnd phase a
   pub stands : Stands j phase Anything u t
 
 -- the machine knows no counts
@@ -69,7 +72,7 @@ plainly (contents c) = contents c
 abbrev pub Given : Job → Gift → Claim
 Given j g u t = Shows j (done (plainly g)) t
 
--- what a step's own conditions make of the tables; a refusal's number is one of a request that waits
+-- what a step's own conditions make of the tables; a refusal is one of a request that waits
 abbrev pub Makes : (ℕ → Tables → Type 0) → Try Tables → Type 0
 Makes Q (gone n t) = Q n t
 Makes Q (no a) = MayEnd waits a
@@ -79,7 +82,7 @@ abbrev pub Keeps : Job → (Tables → Try Tables) → (Tables → Type 0) → (
 Keeps j f X Y = (t : Tables) → Facts j.bank t → clock_of t ≡ j.now → X t → Makes (λ n t'. Same j.bank t t' × Y n t') (f t)
 
 module _ {j : Job} {p : Phase} where
-  pub ended_in : {X : Tables → Type 0} {n : ℕ} (u : Bool) (t : Tables) → MayEnd p n → Stands j p X u t → Ended j n u t
+  pub ended_in : {X : Tables → Type 0} {a : Refusal} (u : Bool) (t : Tables) → MayEnd p a → Stands j p X u t → Ended j a u t
   ended_in u t m s = record { phase = p; may = m; stands = record { past = s.past; shows = s.shows; also = tt } }
 
   -- a claim may say less
@@ -99,12 +102,12 @@ module _ {j : Job} {p : Phase} where
   }
 
 -- the outcome of a step: in either phase it may be cut, and refused where the request waits
-ended_cut : {j : Job} {X : Tables → Type 0} (p : Phase) (u : Bool) (t : Tables) → Stands j p X u t → Ended j 10 u t
-ended_cut waits u t s = ended_in u t (omega arith, omega arith) s
+ended_cut : {j : Job} {X : Tables → Type 0} (p : Phase) (u : Bool) (t : Tables) → Stands j p X u t → Ended j Cut u t
+ended_cut waits u t s = ended_in u t (omega arith) s
 ended_cut (done g) u t s = ended_in u t refl s
 
-ended_refused : {j : Job} {X : Tables → Type 0} (u : Bool) (t : Tables) → Stands j waits X u t → Ended j 9 u t
-ended_refused u t s = ended_in u t (omega arith, omega arith) s
+ended_refused : {j : Job} {X : Tables → Type 0} (u : Bool) (t : Tables) → Stands j waits X u t → Ended j ServiceError u t
+ended_refused u t s = ended_in u t (omega arith) s
 
 -- steps before the header step: X is known before them, Y after them
 abbrev pub Before : {A : Type 0} → Job → (Tables → Type 0) → Steps A → (A → Tables → Type 0) → Type 0
@@ -121,7 +124,7 @@ carried_by {j} {g} t' s f c e = record {
 
 module _ {j : Job} {X : Tables → Type 0} where
   -- no step: a test, and what the tables hold
-  pub tests : (c : Bool) (a : ℕ) → MayEnd waits a → Before j X (check c a) (λ n t. X t × (c ≡ true))
+  pub tests : (c : Bool) (a : Refusal) → MayEnd waits a → Before j X (check c a) (λ n t. X t × (c ≡ true))
   tests c a m = checks c a (λ e u t s. record { past = s.past; shows = s.shows; also = (s.also, e) }) (λ e u t s. ended_in u t m s)
 
   pub learns : {A : Type 0} (f : Tables → A) → Before j X (ask f) (λ a t. X t × (a ≡ f t))

@@ -6,12 +6,14 @@ use mathlib.Core.Bool.{not}
 use mathlib.Core.List.{List}
 use native.Mathlib.Omega.{arith}
 use borrow.Author.Tests.{not-true}
+use Rattle.paper.specs.declared.Bank.{Bank}
 use Rattle.paper.specs.declared.FileId.{FileId}
 use Rattle.paper.specs.declared.PageId.{PageId}
 use Rattle.paper.specs.declared.PageNum.{PageNum}
+use Rattle.paper.specs.declared.Refusal.TheVariants.{NoSuchPage}
 use Rattle.paper.specs.Ids.{page_id}
 use Rattle.paper.specs.Lists.{is_zero}
-use Rattle.paper.specs.Tables.{Bank, Tables, get_page_id, slot_at}
+use Rattle.paper.specs.Tables.{Tables, get_page_id, slot_at}
 use Rattle.paper.specs.Stores.{read_page}
 use Rattle.paper.specs.Steps.{step, on_pages, in_pages}
 use Rattle.paper.specs.Answers.{Info, Read, facts, contents}
@@ -42,7 +44,7 @@ module _ (b : Bank) (now : ℕ) (id : FileId) where
     read_row t₀ = do
       n ← finds
       h ← reads_header n
-      tests (not (is_zero (get_page_id h number).0)) 6 (omega arith, omega arith)
+      tests (not (is_zero (get_page_id h number).0)) NoSuchPage (omega arith)
       p ← reads_page (get_page_id h number)
       c ← learns (λ t. (slot_at b t.ps (page_id p)).contents)
       gives (contents c) (λ u t s. carried_by t s.shows s.shows.facts refl

@@ -1,6 +1,6 @@
 -- Nothing is lost, whatever the request.
 -- Assumes nothing.
-use Rattle.paper.specs.Tables.{Bank}
+use Rattle.paper.specs.declared.Bank.{Bank}
 use Rattle.paper.specs.Answers.{Request, Create, Write, Read, Info, Destroy, SetExpiry, Scavenge}
 use Rattle.plain.specs.Demand.{NothingLost}
 use Rattle.plain.proofs.Reading.{info_loses_nothing, read_loses_nothing}

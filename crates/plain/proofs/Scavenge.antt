@@ -9,10 +9,11 @@ use native.Mathlib.Omega.{arith}
 use borrow.Author.Tests.{leb-true, lt-leb}
 use lib.ListN.{length, length-map}
 use lib.Dec.{leb}
+use Rattle.paper.specs.declared.Bank.{Bank}
 use Rattle.paper.specs.declared.FileId.{FileId}
 use Rattle.paper.specs.declared.Header.{Header}
 use Rattle.paper.specs.Lists.{numbered}
-use Rattle.paper.specs.Tables.{Bank, Slot, Tables, no_header, no_slot, clock_of, header_at, header_expired, slot_expired, with_headers}
+use Rattle.paper.specs.Tables.{Slot, Tables, no_header, no_slot, clock_of, header_at, header_expired, slot_expired, with_headers}
 use Rattle.paper.specs.Sound.{slot_sound}
 use Rattle.paper.specs.Stores.{scavenge_headers, scavenge_pages}
 use Rattle.paper.specs.Steps.{on_headers, in_headers, on_pages, in_pages}

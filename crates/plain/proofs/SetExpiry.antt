@@ -4,14 +4,15 @@ use Prim.Native.Nat.{ℕ, ◌≤◌, ◌<◌}
 use mathlib.Core.Path.{◌≡◌, refl, sym, ap, subst, ◌∙◌}
 use mathlib.Core.Logic.{◌≢◌}
 use mathlib.Core.Bool.{true, false, cond}
-use mathlib.Core.Option.{none}
+use Rattle.std.specs.Prelude.{None}
 use native.Mathlib.Omega.{arith}
 use borrow.Author.Tests.{leb-true, leb-false}
 use lib.Dec.{eqb, leb}
+use Rattle.paper.specs.declared.Bank.{Bank}
 use Rattle.paper.specs.declared.FileId.{FileId}
 use Rattle.paper.specs.declared.Header.{Header}
 use Rattle.paper.specs.Ids.{file_id, later}
-use Rattle.paper.specs.Tables.{Bank, Tables, no_header, clock_of, header_at}
+use Rattle.paper.specs.Tables.{Tables, no_header, clock_of, header_at}
 use Rattle.paper.specs.Stores.{replace_header, set_page_expiry}
 use Rattle.paper.specs.Steps
 use Rattle.paper.specs.Steps.{step, cleanup, header_step, each_page, give, on_headers, on_pages}
@@ -90,7 +91,7 @@ module _ (b : Bank) (now client : ℕ) (id : FileId) (expires : ℕ) (t₀ : Tab
       let l = (found_hit t s w.0).live in
       let same : later expires (clock_of t) ≡ e = ap (later expires) s.clock in
       -- no page is new: which number and slot a new page would have does not matter
-      stores {number = 0} {k = 0} (AllAging b e (header_at t.hs n).pages) t (λ x. cond (eqb x.0 id.0) none (files_of b t x)) _ s
+      stores {number = 0} {k = 0} (AllAging b e (header_at t.hs n).pages) t (λ x. cond (eqb x.0 id.0) None (files_of b t x)) _ s
       (renewed_storable b t n (later expires (clock_of t)) s.facts l 0 0 (omega arith) (λ m ne. omega (arith, long m ne))) (without_found t s w.0) refl
       (on_found t s w.0 _ ∙ rw w.1) (after_aging b t n e s.facts l _ _ (omega arith))
 

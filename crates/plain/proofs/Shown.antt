@@ -3,14 +3,14 @@
 use Prim.Native.Nat.{ℕ}
 use mathlib.Core.Path.{◌≡◌, refl, sym, ◌∙◌}
 use mathlib.Core.Bool.{Bool, true, false, true≢false}
-use mathlib.Core.Option.{Option, none, some}
+use Rattle.std.specs.Prelude.{Option, Some, None}
 use borrow.Author.Tests.{eqb-true, eq-eqb}
 use lib.Dec.{eqb}
+use Rattle.paper.specs.declared.Bank.{Bank}
 use Rattle.paper.specs.declared.FileId.{FileId}
 use Rattle.paper.specs.declared.Header.{Header}
-use Rattle.paper.specs.declared.Found.TheVariants.{At, Nothing}
 use Rattle.paper.specs.Lists.{lowest}
-use Rattle.paper.specs.Tables.{Bank, Tables, no_header, clock_of, header_at, live}
+use Rattle.paper.specs.Tables.{Tables, no_header, clock_of, header_at, live}
 use Rattle.paper.specs.Stores.{has_id}
 use Rattle.paper.specs.Plain.{File}
 use Rattle.paper.specs.View.{file_shown, file_found, view}
@@ -48,8 +48,8 @@ module _ (c : ℕ) (x : FileId) (h : Header) where
 
 -- what an id finds
 pub data Look (t : Tables) (x : FileId) : Type 0 where
-  at : (n : ℕ) → lowest (has_id (clock_of t) x) t.hs.headers ≡ At n → Hit (clock_of t) x (header_at t.hs n) → Look t x
-  nowhere : lowest (has_id (clock_of t) x) t.hs.headers ≡ Nothing → ((n : ℕ) → Hit (clock_of t) x (header_at t.hs n) → ⊥) → Look t x
+  at : (n : ℕ) → lowest (has_id (clock_of t) x) t.hs.headers ≡ Some n → Hit (clock_of t) x (header_at t.hs n) → Look t x
+  nowhere : lowest (has_id (clock_of t) x) t.hs.headers ≡ None → ((n : ℕ) → Hit (clock_of t) x (header_at t.hs n) → ⊥) → Look t x
 
 pub look : (t : Tables) (x : FileId) → Look t x
 look t x = go (search_of (has_id (clock_of t) x) no_header t.hs.headers)
@@ -63,17 +63,17 @@ abbrev pub files_of : Bank → Tables → FileId → Option File
 files_of b t x = file_found b t (lowest (has_id (clock_of t) x) t.hs.headers)
 
 module _ (b : Bank) (t : Tables) (x : FileId) where
-  pub files_at : (n : ℕ) → Facts b t → Hit (clock_of t) x (header_at t.hs n) → files_of b t x ≡ some (file_shown b t.ps (header_at t.hs n))
+  pub files_at : (n : ℕ) → Facts b t → Hit (clock_of t) x (header_at t.hs n) → files_of b t x ≡ Some (file_shown b t.ps (header_at t.hs n))
   files_at n f q = go (look t x)
     where
-      go : Look t x → files_of b t x ≡ some (file_shown b t.ps (header_at t.hs n))
+      go : Look t x → files_of b t x ≡ Some (file_shown b t.ps (header_at t.hs n))
       go (at m e p) = rw (e, f.ids m n p.live.used q.live.used (p.same ∙ sym q.same))
       go (nowhere e h) = absurd (h n q)
 
-  pub files_none : ((n : ℕ) → Hit (clock_of t) x (header_at t.hs n) → ⊥) → files_of b t x ≡ none
+  pub files_none : ((n : ℕ) → Hit (clock_of t) x (header_at t.hs n) → ⊥) → files_of b t x ≡ None
   files_none f = go (look t x)
     where
-      go : Look t x → files_of b t x ≡ none
+      go : Look t x → files_of b t x ≡ None
       go (at m e p) = absurd (f m p)
       go (nowhere e h) = rw e
 

@@ -9,12 +9,13 @@ use native.Mathlib.Omega.{arith}
 use borrow.Author.Tests.{leb-true, ltb-true, eqb-true, eqb-false, le-leb, lt-ltb, ne_eqb, not-true}
 use lib.ListN.{length, get_or, replicate}
 use lib.Dec.{leb, ltb, eqb, leb-zero}
+use Rattle.paper.specs.declared.Bank.{Bank}
 use Rattle.paper.specs.declared.PageId.{PageId}
 use Rattle.paper.specs.declared.Control.{Control}
 use Rattle.paper.specs.declared.Header.{Header}
 use Rattle.paper.specs.Ids.{null_page_id, no_more_ids}
 use Rattle.paper.specs.Lists.{all, those, distinct, is_zero, numbered}
-use Rattle.paper.specs.Tables.{Bank, PS, Tables, no_header, no_slot, live, header_at}
+use Rattle.paper.specs.Tables.{PS, Tables, no_header, no_slot, live, header_at}
 use Rattle.paper.specs.Sound.{s1, s2, s3, s4, s5, sound, zero_header, good_header, header_sound, zero_slot, slot_sound, held, page_ids}
 use Rattle.paper.proofs.Tests.{both}
 use Rattle.plain.proofs.Lists.{both_true, all_anywhere, all_by, all_numbered, numbered_all, at-replicate}

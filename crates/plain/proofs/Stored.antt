@@ -4,15 +4,16 @@ use Prim.Native.Nat.{ℕ, ◌+◌, ◌≤◌, ◌<◌}
 use mathlib.Core.Path.{◌≡◌, refl, sym, ap, ◌∙◌}
 use mathlib.Core.Logic.{◌≢◌}
 use mathlib.Core.Bool.{Bool, true, false, cond, true≢false}
-use mathlib.Core.Option.{Option, none, some}
+use Rattle.std.specs.Prelude.{Option, Some, None}
 use native.Mathlib.Omega.{arith}
 use borrow.Author.Tests.{eqb-true, eqb-false, eq-eqb, ne_eqb, lt-ltb, ltb-true}
 use lib.ListN.{length}
 use lib.Dec.{eqb, ltb}
+use Rattle.paper.specs.declared.Bank.{Bank}
 use Rattle.paper.specs.declared.FileId.{FileId}
 use Rattle.paper.specs.declared.Header.{Header}
 use Rattle.paper.specs.Ids.{file_id, no_more_ids}
-use Rattle.paper.specs.Tables.{Bank, Tables, clock_of, header_at}
+use Rattle.paper.specs.Tables.{Tables, clock_of, header_at}
 use Rattle.paper.specs.Stores.{named, has_id, replace_header}
 use Rattle.paper.specs.Steps.{on_headers, in_headers}
 use Rattle.paper.specs.Answers.{an_id}
@@ -123,23 +124,23 @@ module _ (b : Bank) (t : Tables) (n number k : ℕ) (h : Header) (f : Facts b t)
     stored_facts = header_facts b t n (named (file_id next) h) (next + 1) f allowed
 
     -- nothing has the next id yet
-    unissued : (x : FileId) → x.0 ≡ next → files_of b t x ≡ none
+    unissued : (x : FileId) → x.0 ≡ next → files_of b t x ≡ None
     unissued x e = files_none b t x (λ j q. omega (arith, ((f.header j).full q.live.used).id_high, q.same))
 
     -- fs has the files of all other ids
-    module _ (fs : FileId → Option File) (others : (x : FileId) → cond (has_id (clock_of t) x (header_at t.hs n)) none (files_of b t x) ≡ fs x) where
-      nothing_there : (x : FileId) → x.0 ≡ next → fs x ≡ none
+    module _ (fs : FileId → Option File) (others : (x : FileId) → cond (has_id (clock_of t) x (header_at t.hs n)) None (files_of b t x) ≡ fs x) where
+      nothing_there : (x : FileId) → x.0 ≡ next → fs x ≡ None
       nothing_there x e = sym (others x) ∙ go (has_id (clock_of t) x (header_at t.hs n))
         where
-          go : (u : Bool) → cond u none (files_of b t x) ≡ none
+          go : (u : Bool) → cond u None (files_of b t x) ≡ None
           go true = refl
           go false = unissued x e
 
-      stored_files : (x : FileId) → files_of b stored x ≡ cond (eqb x.0 next) (kept (clock_of t) (some (file_shown b t.ps h))) (fs x)
+      stored_files : (x : FileId) → files_of b stored x ≡ cond (eqb x.0 next) (kept (clock_of t) (Some (file_shown b t.ps h))) (fs x)
       stored_files x = header_files b t n (named (file_id next) h) (next + 1) f allowed x ∙ go (eqb x.0 next) refl (ltb (clock_of t) h.expires) refl
         where
           go : (u : Bool) → eqb x.0 next ≡ u → (v : Bool) → ltb (clock_of t) h.expires ≡ v
-              → files_after b t n (named (file_id next) h) x ≡ cond (eqb x.0 next) (kept (clock_of t) (some (file_shown b t.ps h))) (fs x)
+              → files_after b t n (named (file_id next) h) x ≡ cond (eqb x.0 next) (kept (clock_of t) (Some (file_shown b t.ps h))) (fs x)
           go true e true l = rw (s.used, l, e, eq-eqb next x.0 (sym (eqb-true _ _ e)))
           go true e false l = rw (s.used, l, e, others x) (nothing_there x (eqb-true _ _ e))
           go false e true l = rw (s.used, l, e, ne_eqb next x.0 (λ q. eqb-false _ _ e (sym q))) (others x)
@@ -151,12 +152,12 @@ module _ (b : Bank) (t : Tables) (n number k : ℕ) (h : Header) (f : Facts b t)
       stored_deed file e =
           rw (lt-ltb next no_more_ids ids, ← e)
           (ap (does (an_id (file_id next)))
-          (sym (same_view b stored (λ x. cond (eqb x.0 next) (kept (clock_of t) (some (file_shown b t.ps h))) (fs x)) stored_files)))
+          (sym (same_view b stored (λ x. cond (eqb x.0 next) (kept (clock_of t) (Some (file_shown b t.ps h))) (fs x)) stored_files)))
 
 -- the header step that stores the plain machine's file, where an id is left: Y holds of the tables then
 pub stores : {j : Job} {n number k : ℕ} {h : Header} (Y : Tables → Type 0) (t : Tables) (fs : FileId → Option File) (file : File)
     → Shows j Phase.waits t → Storable j.bank t n number k h
-    → ((x : FileId) → cond (has_id (clock_of t) x (header_at t.hs n)) none (files_of j.bank t x) ≡ fs x) → file_shown j.bank t.ps h ≡ file
+    → ((x : FileId) → cond (has_id (clock_of t) x (header_at t.hs n)) None (files_of j.bank t x) ≡ fs x) → file_shown j.bank t.ps h ≡ file
     → deed j.request (view j.bank t) ≡ storing file (record { clock = clock_of t; next = t.hs.control.next; files = fs })
     → Y (with_header n (named (file_id t.hs.control.next) h) (t.hs.control.next + 1) t)
     → Makes (λ i t'. Shows j (Phase.done (an_id (file_id i))) t' × Y t') (on_headers (replace_header n h) t)
@@ -168,4 +169,4 @@ stores {j} {n} {number} {k} {h} Y t fs file s ok others shown done y = go (ltb t
         let ids = ltb-true _ _ e in
         rw (e, replace_header, in_headers)
         (carried_by _ s (stored_facts j.bank t n number k h s.facts ok ids) refl (done ∙ stored_deed j.bank t n number k h s.facts ok ids fs others file shown), y)
-    go false e = rw (e, replace_header, in_headers) (omega arith, omega arith)
+    go false e = rw (e, replace_header, in_headers) (omega arith)

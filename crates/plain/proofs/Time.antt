@@ -6,9 +6,10 @@ use mathlib.Core.Bool.{Bool, true, false}
 use native.Mathlib.Omega.{arith}
 use borrow.Author.Tests.{ltb-true, lt-ltb}
 use lib.Dec.{ltb}
+use Rattle.paper.specs.declared.Bank.{Bank}
 use Rattle.paper.specs.declared.FileId.{FileId}
 use Rattle.paper.specs.declared.Header.{Header}
-use Rattle.paper.specs.Tables.{Bank, Tables, clock_of, header_at, with_clock}
+use Rattle.paper.specs.Tables.{Tables, clock_of, header_at, with_clock}
 use Rattle.paper.specs.Plain.{kept, passed}
 use Rattle.paper.specs.View.{view}
 use Rattle.plain.proofs.Facts.{Live, InUse, Facts}

@@ -4,10 +4,11 @@ use Prim.Native.Nat.{ℕ}
 use mathlib.Core.Path.{◌≡◌, refl}
 use mathlib.Core.Bool.{Bool, true, false, ◌&&◌, cond}
 use mathlib.Core.List.{List}
-use mathlib.Core.Option.{Option, none, some}
+use Rattle.std.specs.Prelude.{Option, Some, None}
 use lib.Dec.{leb}
 use Rattle.paper.specs.declared.FileId.{FileId}
 use Rattle.paper.specs.declared.PageNum.{PageNum}
+use Rattle.paper.specs.declared.Refusal.TheVariants.{NoSuchFile, NoSuchPage}
 use Rattle.paper.specs.Answers.{Request, Read, Info, Scavenge, contents, facts}
 use Rattle.paper.specs.Requests.{Reply}
 use Rattle.paper.specs.Plain.{File, Plain, does, refuses, told, passed, plain, deed, plain_read, plain_info}
@@ -20,20 +21,20 @@ pub data Looks : Request → Type 0 where
   sweeps : Looks Scavenge
 
 module _ (m : Plain) (lent : List ℕ) where
-  page_read : (p : Option (List ℕ)) → (told lent m (elim p [ none ↦ refuses 6 | some c ↦ does (contents c) m ])).machine ≡ m
+  page_read : (p : Option (List ℕ)) → (told lent m (elim p [ None ↦ refuses NoSuchPage | Some c ↦ does (contents c) m ])).machine ≡ m
   unfolding told
-  page_read none = refl
-  page_read (some c) = refl
+  page_read None = refl
+  page_read (Some c) = refl
 
-  file_read : (number : PageNum) (f : Option File) → (told lent m (elim f [ none ↦ refuses 4 | some g ↦ elim (g.pages number) [ none ↦ refuses 6 | some c ↦ does (contents c) m ] ])).machine ≡ m
+  file_read : (number : PageNum) (f : Option File) → (told lent m (elim f [ None ↦ refuses NoSuchFile | Some g ↦ elim (g.pages number) [ None ↦ refuses NoSuchPage | Some c ↦ does (contents c) m ] ])).machine ≡ m
   unfolding told
-  file_read number none = refl
-  file_read number (some f) = page_read (f.pages number)
+  file_read number None = refl
+  file_read number (Some f) = page_read (f.pages number)
 
-  file_told : (f : Option File) → (told lent m (elim f [ none ↦ refuses 4 | some g ↦ does (facts g.facts) m ])).machine ≡ m
+  file_told : (f : Option File) → (told lent m (elim f [ None ↦ refuses NoSuchFile | Some g ↦ does (facts g.facts) m ])).machine ≡ m
   unfolding told
-  file_told none = refl
-  file_told (some f) = refl
+  file_told None = refl
+  file_told (Some f) = refl
 
 only_time : (now : ℕ) (q : Request) (m : Plain) → Looks q → (plain now q m).machine ≡ passed now m
 unfolding plain deed plain_read plain_info told

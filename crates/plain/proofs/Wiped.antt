@@ -6,9 +6,10 @@ use mathlib.Core.Logic.{◌≢◌}
 use mathlib.Core.List.{List, [], ◌∷◌}
 use native.Mathlib.Omega.{arith}
 use lib.ListN.{get_or}
+use Rattle.paper.specs.declared.Bank.{Bank}
 use Rattle.paper.specs.declared.PageId.{PageId}
 use Rattle.paper.specs.Ids.{page_id, null_page_id}
-use Rattle.paper.specs.Tables.{Bank, Tables, no_slot}
+use Rattle.paper.specs.Tables.{Tables, no_slot}
 use Rattle.paper.specs.Stores.{destroy_page}
 use Rattle.paper.specs.Steps.{cleanup, each_page, on_pages, in_pages}
 use Rattle.plain.proofs.Sound.{zeros_slot}

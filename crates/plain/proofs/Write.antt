@@ -5,14 +5,15 @@ use mathlib.Core.Path.{◌≡◌, sym, subst, ◌∙◌}
 use mathlib.Core.Logic.{◌≢◌}
 use mathlib.Core.Bool.{cond}
 use mathlib.Core.List.{List, [], ◌∷◌}
-use mathlib.Core.Option.{none}
+use Rattle.std.specs.Prelude.{None}
 use native.Mathlib.Omega.{arith}
 use lib.Dec.{eqb}
+use Rattle.paper.specs.declared.Bank.{Bank}
 use Rattle.paper.specs.declared.FileId.{FileId}
 use Rattle.paper.specs.declared.PageNum.{PageNum}
 use Rattle.paper.specs.declared.Header.{Header}
 use Rattle.paper.specs.Ids.{file_id, page_id}
-use Rattle.paper.specs.Tables.{Bank, Tables, clock_of, header_at, get_page_id}
+use Rattle.paper.specs.Tables.{Tables, clock_of, header_at, get_page_id}
 use Rattle.paper.specs.Stores.{replace_header}
 use Rattle.paper.specs.Steps.{on_headers}
 use Rattle.paper.specs.Answers.{Write, an_id}
@@ -64,7 +65,7 @@ module _ (b : Bank) (now client : ℕ) (id : FileId) (number : PageNum) (page : 
     stores_at : Stores n p t (header_at t.hs n)
     unfolding deed plain_write view
     stores_at =
-        stores (AllLoose b (get_page_id h number ∷ [])) t (λ x. cond (eqb x.0 id.0) none (files_of b t x)) _ s
+        stores (AllLoose b (get_page_id h number ∷ [])) t (λ x. cond (eqb x.0 id.0) None (files_of b t x)) _ s
         (page_storable b t n p number page h old m late room) (without_found t s w.0) (file_with_page b t n p number page h old m late room)
         (on_found t s w.0 _ ∙ rw w.1) (one_loose b (get_page_id h number) _ (λ ne. record {
           high = ((s.facts.header n).full live.used).small number.0;

@@ -1,6 +1,7 @@
 -- Demand 3 for one request, on records: the tables stay sound, show what the plain machine then holds, and a Success is the plain machine's.
 use Rattle.std.specs.Prelude.{ℕ, ◌≤◌, ◌≡◌, true, List, length}
-use Rattle.paper.specs.Tables.{Bank, Tables, clock_of, header_at}
+use Rattle.paper.specs.declared.Bank.{Bank}
+use Rattle.paper.specs.Tables.{Tables, clock_of, header_at}
 use Rattle.paper.specs.Sound.{sound}
 use Rattle.paper.specs.Answers.{Request}
 use Rattle.paper.specs.Requests.{Reply, well_formed, carry_out}
