@@ -1,35 +1,39 @@
--- The header table as the Header Store's functions meet it: what a search reads of a slot, how many slots there are, what a store step writes, and the sweep of the slots.
+-- The header table as the Header Store's functions meet it: how many slots there are, what a search finds in them, what a step writes, and the sweep of the slots.
 -- Assumes nothing.
-use Prim.Native.Nat.{ℕ, ◌+◌, ◌-◌, ◌*◌, ◌^◌, ◌≤◌, ◌<◌}
+use Prim.Native.Nat.{ℕ, ◌+◌, ◌*◌, ◌^◌, ◌≤◌, ◌<◌}
 use mathlib.Core.Path.{◌≡◌, refl, sym, ap, ap₂, ◌∙◌}
-use mathlib.Core.Bool.{Bool, true, false, not, ◌&&◌, ◌||◌, and-true}
+use mathlib.Core.Bool.{Bool, true, false}
 use mathlib.Core.List.{List}
 use native.Mathlib.Omega.{arith}
 use borrow.Author.Tests.{lt-ltb, le-ltb}
-use lib.Dec.{leb, ltb, eqb}
+use lib.Dec.{ltb}
 use lib.ListN.{length, take, drop, replicate, length-map}
 use Rattle.paper.specs.declared.FileId.{FileId}
 use Rattle.paper.specs.declared.Header.{Header}
 use Rattle.paper.specs.declared.Control.{Control}
 use Rattle.paper.specs.declared.Issued.{Issued}
-use Rattle.paper.specs.declared.Found.{Found}
-use Rattle.paper.specs.declared.Found.TheVariants.{At, Nothing}
+use Rattle.paper.specs.declared.Refusal.TheVariants.{NoIds}
+use Rattle.std.specs.Prelude.{Option, Some}
+use Rattle.std.specs.declared.ops.Range.{Range}
+use Rattle.std.specs.Fn.{CalledAt}
+use Rattle.std.specs.Iterator.{FindsItem}
+use Rattle.std.proofs.iter.Yields.{nat_range_steps}
+use denote.Param.Members.{Mut}
+use denote.Ref.{Bor}
 use Rattle.paper.specs.Ids.{no_more_ids}
 use Rattle.paper.specs.Lists.{lowest}
-use Rattle.paper.specs.Tables.{header_slots, header_at, header_free, header_expired, no_header, put_header, with_control, with_headers}
-use Rattle.paper.specs.Stores.{gone, no, issued, named, has_id, replace_header, destroy_header, scavenge_headers}
+use Rattle.paper.specs.Tables.{header_slots, header_at, header_expired, no_header, put_header, with_control, with_headers}
+use Rattle.paper.specs.Stores.{gone, no, issued, named, replace_header, destroy_header, scavenge_headers}
 use Rattle.paper.specs.Bytes.{record_size, headers_length, header_layout, header_values, control_bytes, control_from, spare_from, header_bytes, header_from, parts, hs_from}
-use Rattle.paper.proofs.Tests.{left, right}
 use Rattle.bits.specs.Field.{pack, splice}
 use Rattle.bits.specs.Field.Within.{one}
 use Rattle.bits.proofs.Within.{within_test}
-use Rattle.records.specs.declared.HeaderKey.{HeaderKey}
-use Rattle.records.specs.Fits.{ControlFits, HeaderFits, key_of, in_use_as}
+use Rattle.records.specs.Fits.{ControlFits, HeaderFits}
 use Rattle.records.proofs.Records.{control_fits}
 use Rattle.records.proofs.Parts.{length_parts}
-use Rattle.records.proofs.Places.{control_place, control_put, header_place, header_put}
-use Rattle.stores.proofs.Search.{from, passes as finds, fails as misses, none_left, lowest_within}
-use Rattle.stores.proofs.Sweep.{Swept, starts, met_few, ends_list, ends_met, passes, fails}
+use Rattle.records.proofs.Places.{control_place, control_put, header_put}
+use Rattle.stores.proofs.Search.{found_lowest, lowest_within}
+use Rattle.stores.proofs.Sweep.{Swept, starts, met_few, ends, passes, fails}
 
 -- there are 64 slots, whatever the bytes
 pub slots : (xs : List ℕ) → length (hs_from xs).headers ≡ header_slots
@@ -38,67 +42,15 @@ slots xs =
     let ps = parts record_size header_slots (drop record_size xs) in
     length-map ps header_from ∙ length_parts record_size header_slots (drop record_size xs)
 
--- a slot's key answers what a search asks of its header
-module _ (xs : List ℕ) (n : ℕ) (k : HeaderKey) (t : ℕ) (lo : 1 ≤ n) (hi : n ≤ header_slots) (e : k ≡ key_of (header_from (take 36 (drop (n * 36) xs)))) where
-  key_at : k ≡ key_of (header_at (hs_from xs) n)
-  key_at = e ∙ ap key_of (sym (header_place xs n lo hi))
-
-  key_free : not k.used || leb k.expires t ≡ header_free t (header_at (hs_from xs) n)
-  key_free = ap (λ (q : HeaderKey). not q.used || leb q.expires t) key_at
-
-  pub used_free : k.used ≡ true → leb k.expires t ≡ header_free t (header_at (hs_from xs) n)
-  used_free u = ap (λ (b : Bool). not b || leb k.expires t) (sym u) ∙ key_free
-
-  pub unused_free : k.used ≡ false → true ≡ header_free t (header_at (hs_from xs) n)
-  unused_free u = ap (λ (b : Bool). not b || leb k.expires t) (sym u) ∙ key_free
-
-  key_expired : k.used && leb k.expires t ≡ header_expired t (header_at (hs_from xs) n)
-  key_expired = ap (λ (q : HeaderKey). q.used && leb q.expires t) key_at
-
-  pub used_expired : k.used ≡ true → leb k.expires t ≡ header_expired t (header_at (hs_from xs) n)
-  used_expired u = ap (λ (b : Bool). b && leb k.expires t) (sym u) ∙ key_expired
-
-  pub unused_expired : k.used ≡ false → false ≡ header_expired t (header_at (hs_from xs) n)
-  unused_expired u = ap (λ (b : Bool). b && leb k.expires t) (sym u) ∙ key_expired
-
--- a slot that is in use under the id has it where it is live, and another has not
-module _ (t : ℕ) (id : FileId) (xs : List ℕ) (n : ℕ) (lo : 1 ≤ n) (hi : n ≤ header_slots) where
-  abbrev record_at : Header
-  record_at = header_from (take 36 (drop (n * 36) xs))
-
-  not_both : (u l i : Bool) → u && i ≡ false → (u && l) && i ≡ false
-  not_both false l i e = refl
-  not_both true true i e = e
-  not_both true false i e = refl
-
-  pub named_has : (k : HeaderKey) → in_use_as id record_at ≡ true → k ≡ key_of record_at → ltb t k.expires ≡ has_id t id (header_at (hs_from xs) n)
-  named_has k e q =
-      let in_use = left record_at.used (eqb record_at.id.0 id.0) e in
-      let its_id = right record_at.used (eqb record_at.id.0 id.0) e in
-      ap (λ (h : HeaderKey). ltb t h.expires) q
-      ∙ sym (and-true (ltb t record_at.expires))
-      ∙ ap₂ (λ (u i : Bool). (u && ltb t record_at.expires) && i) (sym in_use) (sym its_id)
-      ∙ ap (has_id t id) (sym (header_place xs n lo hi))
-
-  pub other_has_not : in_use_as id record_at ≡ false → false ≡ has_id t id (header_at (hs_from xs) n)
-  other_has_not e =
-      sym (not_both record_at.used (ltb t record_at.expires) (eqb record_at.id.0 id.0) e) ∙ ap (has_id t id) (sym (header_place xs n lo hi))
-
--- a search of the slots as it stands at number n, its turns, its end, and that what it finds is a slot
 module _ (f : Header → Bool) (xs : List ℕ) where
-  abbrev pub slots_from : ℕ → Found
-  slots_from = from f no_header (hs_from xs).headers
+  -- `find` over the slots' numbers, by a closure that tests the header of each
+  pub found_header : {F : Type 0} {g : Mut F (Bor ℕ × Unit {0}) Bool} (s u : Range ℕ) (p : F) (r : Option ℕ) → FindsItem nat_range_steps g s p r u → s.start ≡ 1 → s.end ≡ header_slots + 1
+      → ((n : ℕ) (b : Bool) (q : F) → CalledAt g p n b q → (q ≡ p) × (1 ≤ n → n ≤ header_slots → b ≡ f (header_at (hs_from xs) n))) → r ≡ lowest f (hs_from xs).headers
+  found_header s u p r ran a b k =
+      found_lowest f no_header (hs_from xs).headers s u p r ran a (omega (arith, slots xs)) (rw (slots xs) k)
 
-  pub slot_passes : (n : ℕ) → 1 ≤ n → n ≤ header_slots → f (header_at (hs_from xs) n) ≡ true → slots_from n ≡ At n
-  slot_passes n lo hi e = finds f no_header (hs_from xs).headers n lo (omega (arith, slots xs)) e
-
-  pub slot_fails : (n : ℕ) → 1 ≤ n → n ≤ header_slots → f (header_at (hs_from xs) n) ≡ false → slots_from n ≡ slots_from (n + 1)
-  slot_fails n lo hi e = misses f no_header (hs_from xs).headers n lo (omega (arith, slots xs)) e
-
-  pub slots_end : (n : ℕ) → header_slots < n → slots_from n ≡ Nothing
-  slots_end n h = none_left f no_header (hs_from xs).headers n (omega (arith, slots xs))
-
-  pub found_slot : (n : ℕ) → lowest f (hs_from xs).headers ≡ At n → (1 ≤ n) × (n ≤ header_slots)
+  -- what a search finds is a slot
+  pub found_slot : (n : ℕ) → lowest f (hs_from xs).headers ≡ Some n → (1 ≤ n) × (n ≤ header_slots)
   found_slot n e = let i = lowest_within f n (hs_from xs).headers e in (i.0, omega (arith, slots xs))
 
 pub zeros_fit : HeaderFits no_header
@@ -125,34 +77,29 @@ pub record SweptHeaders (time : ℕ) (xs : List ℕ) (n : ℕ) (ys : List ℕ) (
 
 module _ (time : ℕ) (xs : List ℕ) where
   pub sweep_starts : SweptHeaders time xs 1 xs 0
-  sweep_starts = record { rest = refl; swept = starts (header_expired time) no_header (hs_from xs).headers }
+  sweep_starts = record { rest = refl; swept = starts (header_expired time) no_header refl (hs_from xs).headers }
 
-  module _ (n : ℕ) (ys : List ℕ) (m : ℕ) (i : SweptHeaders time xs n ys m) where
-    pub few_swept : m ≤ n - 1
-    few_swept = met_few i.swept
+  module _ {n : ℕ} {ys : List ℕ} {m : ℕ} (i : SweptHeaders time xs n ys m) where
+    pub few_swept : m ≤ header_slots
+    few_swept = omega (arith, met_few i.swept, slots xs)
 
     pub swept_headers : header_slots < n → gone m (hs_from ys) ≡ scavenge_headers time (hs_from xs)
     unfolding scavenge_headers
     swept_headers h =
-        let past : length (hs_from xs).headers < n = omega (arith, slots xs) in
-        ap₂ gone (ends_met i.swept past)
-        (i.rest ∙ ap (λ (l : List Header). with_headers l (hs_from xs)) (ends_list i.swept past))
+        let e = ends i.swept (omega (arith, slots ys)) in
+        ap₂ gone e.0 (i.rest ∙ ap (λ (l : List Header). with_headers l (hs_from xs)) e.1)
 
-    module _ (lo : 1 ≤ n) (hi : n ≤ header_slots) where
-      pub sweep_passes : (zs : List ℕ) → length ys ≡ headers_length → zs ≡ splice (n * 36) (replicate 36 0) ys → header_expired time (header_at (hs_from ys) n) ≡ true
-          → SweptHeaders time xs (n + 1) zs (m + 1)
-      sweep_passes zs l ez e =
+    module _ (l : length ys ≡ headers_length) (lo : 1 ≤ n) (hi : n ≤ header_slots) where
+      pub sweep_passes : {zs : List ℕ} → zs ≡ splice (n * 36) (replicate 36 0) ys → header_expired time (header_at (hs_from ys) n) ≡ true → SweptHeaders time xs (n + 1) zs (m + 1)
+      sweep_passes {zs} ez e =
           let put : hs_from zs ≡ put_header n no_header (hs_from ys) = zeros_put ys zs n l lo hi ez in
           record {
             rest = rw put (ap (put_header n no_header) i.rest);
-            swept = rw put (passes i.swept lo (omega (arith, slots xs)) e);
+            swept = rw put (passes (header_expired time) no_header refl i.swept e);
           }
 
-      pub sweep_fails : header_expired time (header_at (hs_from ys) n) ≡ false → SweptHeaders time xs (n + 1) ys m
-      sweep_fails e = record {
-        rest = i.rest;
-        swept = fails i.swept lo (omega (arith, slots xs)) e;
-      }
+    pub sweep_fails : header_expired time (header_at (hs_from ys) n) ≡ false → SweptHeaders time xs (n + 1) ys m
+    sweep_fails e = record { rest = i.rest; swept = fails i.swept e }
 
 pub named_fits : (id : FileId) (h : Header) → HeaderFits h → id.0 < no_more_ids → HeaderFits (named id h)
 named_fits id h (one u (one i r)) l = let z : id.0 < 2 ^ 31 = omega arith in one u (one z r)
@@ -172,7 +119,7 @@ module _ (xs : List ℕ) (n : ℕ) (h : Header) (c : Control) (e : c ≡ control
   same : c ≡ (hs_from xs).control
   same = e ∙ control_place xs
 
-  pub no_ids : no_more_ids ≤ c.next → replace_header n h (hs_from xs) ≡ no 8
+  pub no_ids : no_more_ids ≤ c.next → replace_header n h (hs_from xs) ≡ no NoIds
   unfolding replace_header
   no_ids l =
       let next : ltb (hs_from xs).control.next no_more_ids ≡ false = rw (← same) (le-ltb c.next no_more_ids l) in

@@ -1,173 +1,116 @@
-// The Page Store on a lent page table. Slot count and contents length come in at run time.
+// The Page Store on a lent page table, for any bank. Table and bank stand side by side: `read` and `look` are lent the
+// table shared and the others mutably, so that one struct of both would have to be two, each with every clause again.
 ghost use Rattle.std.specs.Prelude.{◌≡◌, ◌≤◌, length};
 ghost use Rattle.paper.specs.Lists.{lowest};
-ghost use Rattle.paper.specs.Ids.{page_id};
-ghost use Rattle.paper.specs.Tables.{slot_free, slot_expired, slot_at};
+ghost use Rattle.paper.specs.Tables.{slot_free, slot_at};
 ghost use Rattle.paper.specs.Stores.{gone, create_page, read_page, destroy_page, set_page_expiry, scavenge_pages};
 ghost use Rattle.paper.specs.Steps.{done, attempt};
 ghost use Rattle.paper.specs.Bytes.{ps_from};
-ghost use Rattle.stores.specs.Geometry.{Geometry, bank, lent_after};
+ghost use Rattle.stores.specs.Geometry.{Geometry, of_page, of_known, lent_after};
 
-use paper::{Found, PageId, Step};
-use records::SlotHead;
+use crate::allowed;
+use paper::{Bank, PageId, Refusal};
+use records::{Lease, SlotHead};
 
-// Free at `time`: not in use or expired.
-fn free_slot(pages: &[u8], slots: usize, size: usize, n: usize, time: u32) -> bool
-    requires geometry { Geometry slots size pages.now }
-    requires le_n { (1 ≤ n) × (n ≤ slots) }
-    ensures { result ≡ slot_free time (slot_at (bank slots size) (ps_from (bank slots size) pages.now) (page_id n)) }
+// Up to one more than the last number, as the header table's searches go.
+pub fn lowest_free_slot(pages: &[u8], bank: Bank, time: u32) -> Option<usize>
+    requires { Geometry bank pages.now }
+    ensures { result ≡ lowest (slot_free time) (ps_from bank pages.now) }
 {
-    let h = records::slot(pages, size, n);
-    if h.used { h.expires <= time } else { true }
-}
-
-pub fn lowest_free_slot(pages: &[u8], slots: usize, size: usize, time: u32) -> Found
-    requires { Geometry slots size pages.now }
-    ensures { result ≡ lowest (slot_free time) (ps_from (bank slots size) pages.now) }
-{
-    let mut n = 1;
-    while n <= slots {
-        if free_slot(pages, slots, size, n, time) {
-            return Found::At(n);
-        }
-        n += 1;
-    }
-    Found::Nothing
+    (1..bank.slots + 1).find(|n| records::slot(pages, bank.size, *n).lease.is_free(time))
 }
 
 // Step: the page goes to the lowest free slot, which is written whole.
 pub fn create_page(
     pages: &mut [u8],
-    slots: usize,
-    size: usize,
+    bank: Bank,
     outcome: u8,
     time: u32,
     expires: u32,
     page: &[u8],
-) -> Step
-    requires geometry { Geometry slots size pages.old }
-    requires page_len { length page.now ≡ size }
-    ensures { done result (ps_from (bank slots size) pages.new) ≡ attempt outcome (create_page time page.now expires) (ps_from (bank slots size) pages.old) }
+) -> Result<PageId, Refusal>
+    requires geometry { Geometry bank pages.old }
+    requires page_len { length page.now ≡ bank.size }
+    ensures { done (of_page result) (ps_from bank pages.new) ≡ attempt outcome (create_page time page.now expires) (ps_from bank pages.old) }
 {
-    match outcome {
-        0 => {
-            let Found::At(n) = lowest_free_slot(pages, slots, size, time) else {
-                return Step::Refused(7);
-            };
-            let head = SlotHead {
-                used: true,
-                spare: 0,
-                expires,
-            };
-            records::put_slot(pages, size, n, head, page);
-            Step::Gone(n as u32)
-        }
-        1 => Step::Refused(9),
-        _ => Step::Cut,
-    }
+    allowed(outcome)?;
+    let n = lowest_free_slot(pages, bank, time).ok_or(Refusal::NoSpace)?;
+    let lease = Lease {
+        used: true,
+        expires,
+    };
+    let head = SlotHead { lease, spare: 0 };
+    records::put_slot(pages, bank.size, n, head, page);
+    // By `as`, since it is proved to fit: `try_from` would test it.
+    Ok(PageId(n as u16))
 }
 
 // Step: zeros over the page's slot.
-pub fn destroy_page(pages: &mut [u8], slots: usize, size: usize, outcome: u8, id: PageId) -> Step
-    requires geometry { Geometry slots size pages.old }
-    requires le_id { (1 ≤ id.0) × (id.0 ≤ slots) }
-    ensures { done result (ps_from (bank slots size) pages.new) ≡ attempt outcome (destroy_page (bank slots size) id) (ps_from (bank slots size) pages.old) }
+pub fn destroy_page(pages: &mut [u8], bank: Bank, outcome: u8, id: PageId) -> Result<(), Refusal>
+    requires geometry { Geometry bank pages.old }
+    requires le_id { (1 ≤ id.0) × (id.0 ≤ bank.slots) }
+    ensures { done (of_known id.0 result) (ps_from bank pages.new) ≡ attempt outcome (destroy_page bank id) (ps_from bank pages.old) }
 {
-    match outcome {
-        0 => {
-            let slot = id.0 as usize;
-            records::zero_slot(pages, size, slot);
-            Step::Gone(id.0 as u32)
-        }
-        1 => Step::Refused(9),
-        _ => Step::Cut,
-    }
+    allowed(outcome)?;
+    records::zero_slot(pages, bank.size, usize::from(id.0));
+    Ok(())
 }
 
 // Step: another expiry for the page.
 pub fn set_page_expiry(
     pages: &mut [u8],
-    slots: usize,
-    size: usize,
+    bank: Bank,
     outcome: u8,
     id: PageId,
     expires: u32,
-) -> Step
-    requires geometry { Geometry slots size pages.old }
-    requires le_id { (1 ≤ id.0) × (id.0 ≤ slots) }
-    ensures { done result (ps_from (bank slots size) pages.new) ≡ attempt outcome (set_page_expiry (bank slots size) expires id) (ps_from (bank slots size) pages.old) }
+) -> Result<(), Refusal>
+    requires geometry { Geometry bank pages.old }
+    requires le_id { (1 ≤ id.0) × (id.0 ≤ bank.slots) }
+    ensures { done (of_known id.0 result) (ps_from bank pages.new) ≡ attempt outcome (set_page_expiry bank expires id) (ps_from bank pages.old) }
 {
-    match outcome {
-        0 => {
-            let slot = id.0 as usize;
-            records::put_expires(pages, size, slot, expires);
-            Step::Gone(id.0 as u32)
-        }
-        1 => Step::Refused(9),
-        _ => Step::Cut,
-    }
+    allowed(outcome)?;
+    records::put_expires(pages, bank.size, usize::from(id.0), expires);
+    Ok(())
 }
 
 // Step: the page's contents go to the lent page, where the step goes through.
 pub fn read_page(
     pages: &[u8],
-    slots: usize,
-    size: usize,
+    bank: Bank,
     outcome: u8,
     id: PageId,
     lent: &mut [u8],
-) -> Step
-    requires geometry { Geometry slots size pages.now }
-    requires le_id { (1 ≤ id.0) × (id.0 ≤ slots) × (length lent.old ≡ size) }
-    ensures step { done result (ps_from (bank slots size) pages.now) ≡ attempt outcome (read_page id) (ps_from (bank slots size) pages.now) }
-    ensures lent_page { lent.new ≡ lent_after result (slot_at (bank slots size) (ps_from (bank slots size) pages.now) id).contents lent.old }
+) -> Result<(), Refusal>
+    requires geometry { Geometry bank pages.now }
+    requires le_id { (1 ≤ id.0) × (id.0 ≤ bank.slots) × (length lent.old ≡ bank.size) }
+    ensures step { done (of_known id.0 result) (ps_from bank pages.now) ≡ attempt outcome (read_page id) (ps_from bank pages.now) }
+    ensures lent_page { lent.new ≡ lent_after result (slot_at bank (ps_from bank pages.now) id).contents lent.old }
 {
-    match outcome {
-        0 => {
-            let slot = id.0 as usize;
-            let c = records::contents(pages, size, slot);
-            lent.copy_from_slice(c);
-            Step::Gone(id.0 as u32)
-        }
-        1 => Step::Refused(9),
-        _ => Step::Cut,
-    }
-}
-
-fn expired_slot(pages: &[u8], slots: usize, size: usize, n: usize, time: u32) -> bool
-    requires geometry { Geometry slots size pages.now }
-    requires le_n { (1 ≤ n) × (n ≤ slots) }
-    ensures { result ≡ slot_expired time (slot_at (bank slots size) (ps_from (bank slots size) pages.now) (page_id n)) }
-{
-    let h = records::slot(pages, size, n);
-    if h.used { h.expires <= time } else { false }
+    allowed(outcome)?;
+    lent.copy_from_slice(records::contents(pages, bank.size, usize::from(id.0)));
+    Ok(())
 }
 
 // Zeros over every expired slot; how many there were.
-fn sweep_slots(pages: &mut [u8], slots: usize, size: usize, time: u32) -> u32
-    requires { Geometry slots size pages.old }
-    ensures { gone result (ps_from (bank slots size) pages.new) ≡ scavenge_pages (bank slots size) time (ps_from (bank slots size) pages.old) }
+fn sweep_slots(pages: &mut [u8], bank: Bank, time: u32) -> u32
+    requires { Geometry bank pages.old }
+    ensures { gone result (ps_from bank pages.new) ≡ scavenge_pages bank time (ps_from bank pages.old) }
 {
-    let mut swept: u32 = 0;
-    let mut n = 1;
-    while n <= slots {
-        if expired_slot(pages, slots, size, n, time) {
-            records::zero_slot(pages, size, n);
+    let mut swept = 0;
+    for n in 1..=bank.slots {
+        if records::slot(pages, bank.size, n).lease.is_expired(time) {
+            records::zero_slot(pages, bank.size, n);
             swept += 1;
         }
-        n += 1;
     }
     swept
 }
 
 // Step: the sweep of Scavenge over the page table.
-pub fn scavenge_pages(pages: &mut [u8], slots: usize, size: usize, outcome: u8, time: u32) -> Step
-    requires { Geometry slots size pages.old }
-    ensures { done result (ps_from (bank slots size) pages.new) ≡ attempt outcome (scavenge_pages (bank slots size) time) (ps_from (bank slots size) pages.old) }
+pub fn scavenge_pages(pages: &mut [u8], bank: Bank, outcome: u8, time: u32) -> Result<u32, Refusal>
+    requires { Geometry bank pages.old }
+    ensures { done result (ps_from bank pages.new) ≡ attempt outcome (scavenge_pages bank time) (ps_from bank pages.old) }
 {
-    match outcome {
-        0 => Step::Gone(sweep_slots(pages, slots, size, time)),
-        1 => Step::Refused(9),
-        _ => Step::Cut,
-    }
+    allowed(outcome)?;
+    Ok(sweep_slots(pages, bank, time))
 }

@@ -1,18 +1,10 @@
--- `lowest_free_header` looks at the slots in order: whenever the test is reached, the search from n on is the whole search.
-use mathlib.Core.Path.{sym, ◌∙◌}
+-- `lowest_free_header` is `find` over the slots' numbers by each header's lease.
+use mathlib.Core.Path.{refl}
 use native.Mathlib.Omega.{arith}
-use Rattle.stores.proofs.HeaderSlots.{slot_passes, slot_fails, slots_end}
+use Rattle.std.proofs.Common.{rules}
+use Rattle.records.proofs.Places.{header_place}
+use Rattle.stores.proofs.HeaderSlots.{found_header}
 use Rattle.stores.proofs.headers.lowest_free_header.Goals as goal
 
-pub returns-then-free_header : goal.returns-then-free_header
-returns-then-free_header c =
-    let l = c.loop-n in
-    sym (l.invariant.1 ∙ slot_passes _ _ _ l.invariant.0 c.loop-n-test.true (sym c.free_header.ensures ∙ c.if-free_header.true))
-
-pub loop-n-preserved : goal.loop-n-preserved
-loop-n-preserved c =
-    let l = c.loop-n in
-    (omega arith, l.invariant.1 ∙ slot_fails _ _ _ l.invariant.0 c.loop-n-test.true (sym c.free_header.ensures ∙ c.if-free_header.false))
-
 pub returns : goal.returns
-returns c = sym (c.loop-n.invariant.1 ∙ slots_end _ _ _ c.loop-n-test.false)
+returns c = found_header _ _ _ _ _ _ c.find.ensures.ran refl refl (λ n b q k. (search rules, λ lo hi. rw (header_place _ n lo hi) (grind arith)))

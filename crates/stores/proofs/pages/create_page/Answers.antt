@@ -1,44 +1,28 @@
--- `create_page` writes the slot that the search found; the search is the definition's.
-use mathlib.Core.Path.{ap, sym, ◌∙◌}
-use Prim.Native.Nat.{◌^◌, ◌<◌}
+-- `create_page` writes the slot that the search found, where its outcome lets it and there is one.
+use Rattle.std.proofs.Common.{rules, ◌≡◌}
 use native.Mathlib.Omega.{arith}
-use Rattle.paper.specs.Stores.{gone}
+use Rattle.std.specs.Prelude.{Some}
+use Rattle.paper.specs.Lists.{lowest}
+use Rattle.paper.specs.Tables.{slot_free}
 use Rattle.paper.specs.Bytes.{ps_from}
-use Rattle.paper.proofs.Searched.{page_none, page_at_lem}
-use Rattle.stores.specs.Geometry.{bank}
-use Rattle.stores.proofs.Slots.{slot_room, filled, found_slot}
-use Rattle.stores.proofs.Outcomes.{goes, goes_not, outcomes}
-use Rattle.std.proofs.Common.{rules}
+use Rattle.stores.proofs.Outcomes.{goes}
+use Rattle.stores.proofs.Slots.{slot_room, created, found_slot}
+use Rattle.stores.proofs.pages.create_page.Goals.{In_ok-n}
 use Rattle.stores.proofs.pages.create_page.Goals as goal
 
-pub returns-in_default-lowest_free_slot : goal.returns-in_default-lowest_free_slot
-returns-in_default-lowest_free_slot c =
-    goes_not _ _ _ 7 c.in-0.is (page_none _ _ _ _ (sym c.lowest_free_slot.ensures ∙ c.in_default-lowest_free_slot.is))
+found : (c : In_ok-n) → lowest (slot_free c.args.time) (ps_from c.args.bank c.args.pages.now) ≡ Some c.in_ok-n.n
+found c = grind arith
 
-pub put_slot-requires : goal.put_slot-requires
-put_slot-requires c =
-    let h = found_slot _ _ _ _ c.in-At.n (sym c.lowest_free_slot.ensures ∙ c.in-At.is) in
-    record { le_n = (h.0, slot_room c.requires.geometry _ h.0 h.1); page_len = (c.requires.page_len, omega arith) }
+pub put_slot-requires-clause-le_n : goal.put_slot-requires-clause-le_n
+put_slot-requires-clause-le_n c =
+    let h = found_slot _ _ _ _ (found (goal.at.put_slot-requires-clause-le_n c).In_ok-n) in
+    (h.0, slot_room c.requires.geometry _ h.0 h.1)
 
 pub overflow_cast-result : goal.overflow_cast-result
-overflow_cast-result c =
-    let h = found_slot _ _ _ _ c.in-At.n (sym c.lowest_free_slot.ensures ∙ c.in-At.is) in
-    omega (arith, h.1, c.requires.geometry.few)
+overflow_cast-result c = omega (arith, found_slot _ _ _ _ (found (goal.at.overflow_cast-result c).In_ok-n))
 
-pub returns-in-At : goal.returns-in-At
-returns-in-At c =
-    let a = c.args in
-    let e = sym c.lowest_free_slot.ensures ∙ c.in-At.is in
-    let h = found_slot _ _ _ _ c.in-At.n e in
-    let fit : a.expires < 2 ^ 32 = omega arith in
-    goes _ _ _ _ _ c.in-0.is
-    (page_at_lem _ _ _ _ c.in-At.n e
-    ∙ ap (gone c.in-At.n)
-    (sym (ap (ps_from (bank a.slots a.size)) c.put_slot.ensures
-    ∙ filled c.requires.geometry _ h.0 h.1 a.expires a.page.now fit (λ i. (c.type_inv.page i).fits) c.requires.page_len)))
-
-pub returns-in-1 : goal.returns-in-1
-returns-in-1 c = search (rules, outcomes)
-
-pub returns-in_default : goal.returns-in_default
-returns-in_default c = search (rules, outcomes)
+pub returns : goal.returns
+returns c =
+    let e = found (goal.at.returns c).In_ok-n in
+    let h = found_slot _ _ _ _ e in
+    goes _ _ c.allowed.ensures c.in_ok-allowed.was (created c.requires.geometry _ h.0 h.1 _ _ e c.put_slot.ensures (search rules) (search rules) c.requires.page_len)
