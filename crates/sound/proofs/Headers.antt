@@ -12,17 +12,18 @@ use lib.ListN.{length, take, drop, set}
 use lib.Seq.{take-suc-set}
 use Rattle.bits.specs.Field.{field, Bytes}
 use Rattle.bits.proofs.Fields.{field_lt}
+use Rattle.paper.specs.declared.Bank.{Bank}
 use Rattle.paper.specs.declared.Control.{Control}
 use Rattle.paper.specs.declared.Header.{Header}
 use Rattle.paper.specs.Lists.{all, is_zero, numbered}
-use Rattle.paper.specs.Tables.{Bank, PS, no_header, header_slots, header_at}
+use Rattle.paper.specs.Tables.{PS, no_header, header_slots, header_at}
 use Rattle.paper.specs.Sound.{good_header, zero_header}
 use Rattle.paper.specs.Bytes.{is_one, ids_of, headers_length, header_from, hs_from}
 use Rattle.records.proofs.Read.{header_fields, word_used}
 use Rattle.records.proofs.Places.{header_place}
 use Rattle.records.proofs.Zeros.{zero_header_lem}
-use Rattle.sound.specs.declared.Checked.{Checked}
-use Rattle.sound.specs.declared.Checked.TheVariants.{Broken, Empty, Named}
+use Rattle.std.specs.Prelude.{Result, Ok, Err, Option, Some, None}
+use Rattle.sound.specs.declared.Broken.{Broken}
 use Rattle.sound.specs.Seen.{id_within, ids_in_use, marked, held_to, once, passes, seen_after, all_pass, told}
 use Rattle.paper.proofs.Tests.{both}
 use Rattle.sound.proofs.Walks.{from_number, past_all}
@@ -52,17 +53,17 @@ module _ (xs : List ℕ) (long : length xs ≡ headers_length) (n : ℕ) (lo : 1
   word_unused h = sym header_used ∙ ne_eqb (w / 2147483648) 1 (λ z. absurd (omega arith))
 
 -- what is told of a header, by whether it is in use and passes
-told_by : (h : Header) (u t : Bool) → h.used ≡ u → cond t (cond u (Named h.id.0) Empty) Broken ≡ told t h
+told_by : (h : Header) (u t : Bool) → h.used ≡ u → cond t (Ok (cond u (Some h.id.0) None)) (Err (record {})) ≡ told t h
 unfolding told
-told_by h u true e = ap (λ (s : Bool). cond s (Named h.id.0) Empty) (sym e)
+told_by h u true e = ap (λ (s : Bool). Ok (cond s (Some h.id.0) None)) (sym e)
 told_by h u false e = refl
 
 module _ (b : Bank) (c : Control) (ps : PS) (seen : List Bool) where
   -- r is what is to be told of header h, and after is the map then
-  abbrev pub Told : Header → Checked → List Bool → Type 0
+  abbrev pub Told : Header → Result (Option ℕ) Broken → List Bool → Type 0
   Told h r after = (r ≡ told (passes b c ps seen h) h) × (after ≡ seen_after b c seen h)
 
-  pub told_same : {h k : Header} {r : Checked} {after : List Bool} → h ≡ k → Told h r after → Told k r after
+  pub told_same : {h k : Header} {r : Result (Option ℕ) Broken} {after : List Bool} → h ≡ k → Told h r after → Told k r after
   told_same {r = r} {after = after} e t = subst (λ (x : Header). Told x r after) e t
 
   module _ (h : Header) where
@@ -78,20 +79,20 @@ module _ (b : Bank) (c : Control) (ps : PS) (seen : List Bool) where
     passes_by u l g t eu el eg et = sym (λ i. cond (eu i) (eg i && cond (el i) (et i) true) (zero_header h))
 
     module _ (u : h.used ≡ true) where
-      pub not_good : good_header b c h ≡ false → Told h Broken seen
+      pub not_good : good_header b c h ≡ false → Told h (Err (record {})) seen
       not_good g = (
         told_by h true false u ∙ ap (λ (t : Bool). told t h) (passes_by true _ false _ u refl g refl),
         ap (λ (t : Bool). cond t (marked seen (ids_of h.pages)) seen) (sym (and-false (ltb c.clock h.expires))) ∙ after_by true _ false u refl g,
       )
 
       module _ (g : good_header b c h ≡ true) where
-        pub good_expired : h.expires ≤ c.clock → Told h (Named h.id.0) seen
+        pub good_expired : h.expires ≤ c.clock → Told h (Ok (Some h.id.0)) seen
         good_expired l =
             let e : ltb c.clock h.expires ≡ false = le-ltb c.clock h.expires l in
             (told_by h true true u ∙ ap (λ (t : Bool). told t h) (passes_by true false true _ u e g refl), after_by true false true u e g)
 
         pub good_live : c.clock < h.expires → (t : Bool) → t ≡ once (held_to b ps h.expires) seen h.pages
-            → Told h (cond t (Named h.id.0) Broken) (marked seen (ids_of h.pages))
+            → Told h (cond t (Ok (Some h.id.0)) (Err (record {}))) (marked seen (ids_of h.pages))
         good_live l t o =
             let e : ltb c.clock h.expires ≡ true = lt-ltb c.clock h.expires l in
             (told_by h true t u ∙ ap (λ (s : Bool). told s h) (passes_by true true true t u e g (sym o)), after_by true true true u e g)
@@ -101,7 +102,7 @@ module _ (b : Bank) (c : Control) (ps : PS) (seen : List Bool) where
     abbrev at_n : Header
     at_n = header_at (hs_from xs) n
 
-    pub not_in_use : (t : Bool) → t ≡ all is_zero (part (n * 36) 36 xs) → Told at_n (cond t Empty Broken) seen
+    pub not_in_use : (t : Bool) → t ≡ all is_zero (part (n * 36) 36 xs) → Told at_n (cond t (Ok None) (Err (record {}))) seen
     not_in_use t z =
         let zeros : zero_header at_n ≡ all is_zero (part (n * 36) 36 xs) =
         ap zero_header (sym (own_header xs n lo hi)) ∙ zero_header_lem (part (n * 36) 36 xs) (part_bytes (n * 36) 36 xs bytes) (part_length (n * 36) 36 xs (omega arith)) in
@@ -109,41 +110,29 @@ module _ (b : Bank) (c : Control) (ps : PS) (seen : List Bool) where
 
 -- what was told says of the header
 module _ (h : Header) where
-  broken_fails : (t : Bool) → told t h ≡ Broken → t ≡ false
+  broken_fails : (t : Bool) (e : Broken) → told t h ≡ Err e → t ≡ false
   unfolding told
-  broken_fails false e = refl
-  broken_fails true e = go h.used e
-    where
-      go : (u : Bool) → cond u (Named h.id.0) Empty ≡ Broken → true ≡ false
-      go true e = cc
-      go false e = cc
+  broken_fails false e p = refl
+  broken_fails true e p = cc
 
-  empty_passes : (t : Bool) → told t h ≡ Empty → (t ≡ true) × (h.used ≡ false)
+  sound_passes : (t : Bool) (o : Option ℕ) → told t h ≡ Ok o → (t ≡ true) × (cond h.used (Some h.id.0) None ≡ o)
   unfolding told
-  empty_passes false e = (cc, cc)
-  empty_passes true e = (refl, go h.used e)
-    where
-      go : (u : Bool) → cond u (Named h.id.0) Empty ≡ Empty → u ≡ false
-      go true e = cc
-      go false e = refl
+  sound_passes false o p = (cc, cc)
+  sound_passes true o p = (refl, cc)
 
-  named_passes : (t : Bool) (id : ℕ) → told t h ≡ Named id → (t ≡ true) × (h.used ≡ true) × (h.id.0 ≡ id)
-  unfolding told
-  named_passes false id e = (cc, cc, cc)
-  named_passes true id e = let g = go h.used e in (refl, g.0, g.1)
-    where
-      go : (u : Bool) → cond u (Named h.id.0) Empty ≡ Named id → (u ≡ true) × (h.id.0 ≡ id)
-      go true e = (refl, cc)
-      go false e = (cc, cc)
+  none_unused : (u : Bool) → cond u (Some h.id.0) None ≡ None → u ≡ false
+  none_unused true e = cc
+  none_unused false e = refl
+
+  some_used : (u : Bool) (id : ℕ) → cond u (Some h.id.0) None ≡ Some id → (u ≡ true) × (h.id.0 ≡ id)
+  some_used true id e = (refl, cc)
+  some_used false id e = (cc, cc)
 
 -- the headers have been walked up to number n: the map is seen, and the first count of ids are the ids of those in use
 pub record Gathered (b : Bank) (c : Control) (ps : PS) (seen₀ : List Bool) (hs : List Header) (n : ℕ) (seen : List Bool) (ids : List ℕ) (count : ℕ) : Type 0 where
   pub few : count ≤ n - 1
   pub pass : all_pass b c ps seen (drop (n - 1) hs) ≡ all_pass b c ps seen₀ hs
   pub names : take count ids ++ ids_in_use (drop (n - 1) hs) ≡ ids_in_use hs
-
-pub gather_starts : (b : Bank) (c : Control) (ps : PS) (seen : List Bool) (hs : List Header) (ids : List ℕ) → Gathered b c ps seen hs 1 seen ids 0
-gather_starts b c ps seen hs ids = record { few = omega arith; pass = refl; names = refl }
 
 module _ {b : Bank} {c : Control} {ps : PS} {seen₀ : List Bool} {hs : List Header} {n : ℕ} {seen : List Bool} {ids : List ℕ} {count : ℕ} (g : Gathered b c ps seen₀ hs n seen ids count) where
   pub gather_ends : length hs < n → (all_pass b c ps seen₀ hs ≡ true) × (take count ids ≡ ids_in_use hs)
@@ -176,21 +165,22 @@ module _ {b : Bank} {c : Control} {ps : PS} {seen₀ : List Bool} {hs : List Hea
         used_or_not true e = rw (next, e)
         used_or_not false e = rw (next, e)
 
-    pub gather_broken : told (passes b c ps seen here) here ≡ Broken → all_pass b c ps seen₀ hs ≡ false
-    gather_broken e = sym turn ∙ ap (λ (t : Bool). t && all_pass b c ps (seen_after b c seen here) rest) (broken_fails here _ e)
+    pub gather_broken : (e : Broken) → told (passes b c ps seen here) here ≡ Err e → all_pass b c ps seen₀ hs ≡ false
+    gather_broken e t = sym turn ∙ ap (λ (p : Bool). p && all_pass b c ps (seen_after b c seen here) rest) (broken_fails here _ e t)
 
-    pub gather_empty : (seen' : List Bool) → told (passes b c ps seen here) here ≡ Empty → seen' ≡ seen_after b c seen here → Gathered b c ps seen₀ hs (n + 1) seen' ids count
-    gather_empty seen' e m =
-        let p = empty_passes here _ e in
-        record { few = omega (arith, g.few); pass = passed seen' p.0 m; names = names_by false p.1 }
+    module _ (seen' : List Bool) (o : Option ℕ) (t : told (passes b c ps seen here) here ≡ Ok o) (m : seen' ≡ seen_after b c seen here) where
+      pub gather_unused : o ≡ None → Gathered b c ps seen₀ hs (n + 1) seen' ids count
+      gather_unused e =
+          let p = sound_passes here _ o t in
+          record { few = omega (arith, g.few); pass = passed seen' p.0 m; names = names_by false (none_unused here _ (p.1 ∙ e)) }
 
-    pub gather_named : (seen' : List Bool) (id : ℕ) → told (passes b c ps seen here) here ≡ Named id → seen' ≡ seen_after b c seen here → count < length ids
-        → Gathered b c ps seen₀ hs (n + 1) seen' (set ids count id) (count + 1)
-    gather_named seen' id e m room =
-        let p = named_passes here _ id e in
-        record {
-          few = omega (arith, g.few);
-          pass = passed seen' p.0 m;
-          names = rw (add-one, take-suc-set ids count id) (append_assoc (take count ids) (id ∷ []) (ids_in_use rest))
-              ∙ ap (λ (x : ℕ). take count ids ++ x ∷ ids_in_use rest) (sym p.2) ∙ names_by true p.1;
-        }
+      pub gather_used : (id : ℕ) → o ≡ Some id → count < length ids → Gathered b c ps seen₀ hs (n + 1) seen' (set ids count id) (count + 1)
+      gather_used id e room =
+          let p = sound_passes here _ o t in
+          let u = some_used here _ id (p.1 ∙ e) in
+          record {
+            few = omega (arith, g.few);
+            pass = passed seen' p.0 m;
+            names = rw (add-one, take-suc-set ids count id) (append_assoc (take count ids) (id ∷ []) (ids_in_use rest))
+                ∙ ap (λ (x : ℕ). take count ids ++ x ∷ ids_in_use rest) (sym u.1) ∙ names_by true u.0;
+          }

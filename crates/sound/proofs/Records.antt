@@ -4,18 +4,20 @@ use Prim.Native.Nat.{ℕ, ◌+◌, ◌-◌, ◌*◌, ◌/◌, ◌%◌, ◌≤◌
 use mathlib.Core.Path.{◌≡◌, refl, sym, ap, ap₂, ◌∙◌}
 use mathlib.Core.Bool.{Bool, true, false, ◌&&◌, cond}
 use mathlib.Core.List.{List}
+use mathlib.Core.Logic.{◌⊎◌, inl, inr}
 use native.Mathlib.Omega.{arith}
 use borrow.Author.Tests.{le-leb, lt-leb, eq-eqb, ne_eqb, eqb-true}
-use lib.Dec.{leb}
+use lib.Dec.{eqb, leb}
 use lib.ListN.{length, take, drop, length-drop}
 use lib.Seq.{length-take-le, take-add, drop_at}
 use Rattle.bits.specs.Field.{field, Bytes}
 use Rattle.bits.proofs.Cover.{bytes-take, bytes-drop, window}
+use Rattle.paper.specs.declared.Bank.{Bank}
 use Rattle.paper.specs.declared.PageId.{PageId}
 use Rattle.paper.specs.declared.Control.{Control}
 use Rattle.paper.specs.Ids.{no_more_ids, page_id}
 use Rattle.paper.specs.Lists.{all, is_zero}
-use Rattle.paper.specs.Tables.{Bank, Slot, PS, slot_at}
+use Rattle.paper.specs.Tables.{Slot, PS, slot_at}
 use Rattle.paper.specs.Sound.{s1, zero_slot, slot_sound}
 use Rattle.paper.specs.Bytes.{is_one, headers_length, control_from, spare_from, slot_from, hs_from, ps_from}
 use Rattle.records.specs.declared.SlotHead.{SlotHead}
@@ -23,7 +25,7 @@ use Rattle.records.specs.Fits.{head_of}
 use Rattle.records.proofs.Read.{slot_fields, word_used, word_number}
 use Rattle.records.proofs.Places.{slot_place}
 use Rattle.records.proofs.Zeros.{zero_spare, zero_slot_lem}
-use Rattle.stores.specs.Geometry.{Geometry, bank}
+use Rattle.stores.specs.Geometry.{Geometry}
 use Rattle.stores.proofs.Slots.{slot_room}
 use Rattle.sound.specs.Seen.{held_to}
 
@@ -36,18 +38,16 @@ module _ (xs : List ℕ) (c : Control) (e : c ≡ control_from (take 36 xs)) whe
   by_tests : (a b : Bool) → leb 1 c.next ≡ a → leb c.next no_more_ids ≡ b → a && b && is_zero (spare_from (take 36 xs)) ≡ s1 (hs_from xs)
   by_tests a b p q = ap₂ (λ (s t : Bool). s && t && is_zero (spare_from (take 36 xs))) (sym p) (sym q) ∙ by_control
 
-  pub next_none : c.next ≡ 0 → false ≡ s1 (hs_from xs)
-  next_none z = by_tests false (leb c.next no_more_ids) (lt-leb 1 c.next (omega arith)) refl
+  pub next_breaks : ((c.next ≡ 0 → ⊥) × (no_more_ids < c.next)) ⊎ (c.next ≡ 0) → s1 (hs_from xs) ≡ false
+  next_breaks (inl h) = sym (by_tests true false (le-leb 1 c.next (omega arith)) (lt-leb c.next no_more_ids h.1))
+  next_breaks (inr z) = sym (by_tests false (leb c.next no_more_ids) (lt-leb 1 c.next (omega arith)) refl)
 
-  pub next_large : no_more_ids < c.next → false ≡ s1 (hs_from xs)
-  next_large h = by_tests true false (le-leb 1 c.next (omega arith)) (lt-leb c.next no_more_ids h)
-
-  pub next_fits : Bytes xs → length xs ≡ headers_length → (c.next ≡ 0 → ⊥) → c.next ≤ no_more_ids → all is_zero (take 28 (drop 8 xs)) ≡ s1 (hs_from xs)
-  next_fits b l z h =
+  pub next_fits : Bytes xs → length xs ≡ headers_length → (c.next ≡ 0 → ⊥) × (c.next ≤ no_more_ids) → all is_zero (take 28 (drop 8 xs)) ≡ s1 (hs_from xs)
+  next_fits b l h =
       let spare : drop 8 (take 36 xs) ≡ take 28 (drop 8 xs) =
       ap (drop 8) (take-add 8 28 xs) ∙ drop_at (take 8 xs) (take 28 (drop 8 xs)) 8 (length-take-le 8 xs (omega arith)) in
       sym (zero_spare (take 36 xs) (bytes-take 36 xs b) (length-take-le 36 xs (omega arith)) ∙ ap (all is_zero) spare)
-      ∙ by_tests true true (le-leb 1 c.next (omega arith)) (le-leb c.next no_more_ids h)
+      ∙ by_tests true true (le-leb 1 c.next (omega arith)) (le-leb c.next no_more_ids h.1)
 
 -- the w bytes from index a on, as a loan of a to a + w has them
 abbrev pub part : ℕ → ℕ → List ℕ → List ℕ
@@ -99,30 +99,30 @@ module _ (xs : List ℕ) (b : Bytes xs) (l : 8 ≤ length xs) (w : ℕ) (e : w �
       go false u = sym (zero_slot_lem xs b l)
 
 -- slot n by its part of the table
-module _ {slots size : ℕ} {xs : List ℕ} (g : Geometry slots size xs) (bytes : Bytes xs) (n : ℕ) (lo : 1 ≤ n) (hi : n ≤ slots) where
+module _ {b : Bank} {xs : List ℕ} (g : Geometry b xs) (bytes : Bytes xs) (n : ℕ) (lo : 1 ≤ n) (hi : n ≤ b.slots) where
   abbrev own : List ℕ
-  own = part ((n - 1) * (8 + size)) (8 + size) xs
+  own = part ((n - 1) * (8 + b.size)) (8 + b.size) xs
 
   own_long : 8 ≤ length own
-  own_long = omega (arith, part_length ((n - 1) * (8 + size)) (8 + size) xs (slot_room g n lo hi))
+  own_long = omega (arith, part_length ((n - 1) * (8 + b.size)) (8 + b.size) xs (slot_room g n lo hi))
 
-  own_slot : slot_from own ≡ slot_at (bank slots size) (ps_from (bank slots size) xs) (page_id n)
-  own_slot = ap slot_from (part_is ((n - 1) * (8 + size)) (8 + size) xs) ∙ sym (slot_place (bank slots size) xs n lo hi)
+  own_slot : slot_from own ≡ slot_at b (ps_from b xs) (page_id n)
+  own_slot = ap slot_from (part_is ((n - 1) * (8 + b.size)) (8 + b.size) xs) ∙ sym (slot_place b xs n lo hi)
 
   module _ (w : ℕ) (e : w ≡ field 0 32 own) where
-    pub slot_in_use : w ≡ 2147483648 → true ≡ slot_sound (slot_at (bank slots size) (ps_from (bank slots size) xs) (page_id n))
-    slot_in_use h = sound_in_use own (part_bytes ((n - 1) * (8 + size)) (8 + size) xs bytes) own_long w e h ∙ ap slot_sound own_slot
+    pub slot_in_use : w ≡ 2147483648 → eqb w 2147483648 ≡ slot_sound (slot_at b (ps_from b xs) (page_id n))
+    slot_in_use h = eq-eqb w 2147483648 h ∙ sound_in_use own (part_bytes ((n - 1) * (8 + b.size)) (8 + b.size) xs bytes) own_long w e h ∙ ap slot_sound own_slot
 
-    pub slot_otherwise : (w ≡ 2147483648 → ⊥) → all is_zero own ≡ slot_sound (slot_at (bank slots size) (ps_from (bank slots size) xs) (page_id n))
-    slot_otherwise h = sound_otherwise own (part_bytes ((n - 1) * (8 + size)) (8 + size) xs bytes) own_long w e h ∙ ap slot_sound own_slot
+    pub slot_otherwise : (w ≡ 2147483648 → ⊥) → all is_zero own ≡ slot_sound (slot_at b (ps_from b xs) (page_id n))
+    slot_otherwise h = sound_otherwise own (part_bytes ((n - 1) * (8 + b.size)) (8 + b.size) xs bytes) own_long w e h ∙ ap slot_sound own_slot
 
 -- S4 for a page id, by the head of its slot
 pub held_by_head : (b : Bank) (ps : PS) (e n : ℕ) (k : SlotHead) (t : Slot) → 1 ≤ n → k ≡ head_of t → slot_at b ps (page_id n) ≡ t
-    → k.used && leb e k.expires ≡ held_to b ps e (page_id n)
+    → k.lease.used && leb e k.lease.expires ≡ held_to b ps e (page_id n)
 unfolding held_to
 held_by_head b ps e n k t lo head same =
     let nz : is_zero n ≡ false = ne_eqb n 0 (λ z. absurd (omega arith)) in
-    rw (nz, same) (ap (λ (q : SlotHead). q.used && leb e q.expires) head)
+    rw (nz, same) (ap (λ (q : SlotHead). q.lease.used && leb e q.lease.expires) head)
 
 pub held_null : (b : Bank) (ps : PS) (e : ℕ) (p : PageId) → p.0 ≡ 0 → held_to b ps e p ≡ true
 unfolding held_to

@@ -53,9 +53,6 @@ pub record Walked (f : PageId → Bool) (ids : List PageId) (seen₀ : List Bool
   pub found : good && once f seen (drop k ids) ≡ once f seen₀ ids
   pub map : marked seen (ids_of (drop k ids)) ≡ marked seen₀ (ids_of ids)
 
-pub walk_starts : (f : PageId → Bool) (ids : List PageId) (seen : List Bool) → Walked f ids seen 0 seen true
-walk_starts f ids seen = record { found = refl; map = refl }
-
 module _ {f : PageId → Bool} {ids : List PageId} {seen₀ : List Bool} {k : ℕ} {seen : List Bool} {good : Bool} (w : Walked f ids seen₀ k seen good) where
   pub walk_ends : length ids ≤ k → (good ≡ once f seen₀ ids) × (seen ≡ marked seen₀ (ids_of ids))
   unfolding once marked
@@ -63,29 +60,30 @@ module _ {f : PageId → Bool} {ids : List PageId} {seen₀ : List Bool} {k : �
       let none : drop k ids ≡ [] = drop_of_length-le ids h in
       (sym (and-true good) ∙ ap (λ (l : List PageId). good && once f seen l) (sym none) ∙ w.found, ap (λ (l : List PageId). marked seen (ids_of l)) (sym none) ∙ w.map)
 
-  module _ (h : k < length ids) (here : PageId) (at : here ≡ get_or ids k (page_id 0)) where
-    abbrev n : ℕ
-    n = here.0
+  module _ (h : k < length ids) where
+    abbrev here : PageId
+    here = get_or ids k (page_id 0)
 
     rest : drop k ids ≡ here ∷ drop (k + 1) ids
-    rest = rw (at, add-one, drop-cons ids k (page_id 0))
+    rest = rw (add-one, drop-cons ids k (page_id 0))
 
-    turn : (seen' : List Bool) (good' : Bool) → good' ≡ good && (f here && not (is_marked seen n)) → seen' ≡ mark seen n → Walked f ids seen₀ (k + 1) seen' good'
+    turn : (seen' : List Bool) (good' : Bool) → good' ≡ good && (f here && not (is_marked seen here.0)) → seen' ≡ mark seen here.0 → Walked f ids seen₀ (k + 1) seen' good'
     unfolding once marked
     turn seen' good' g m = record {
-      found = ap₂ (λ (b : Bool) (l : List Bool). b && once f l (drop (k + 1) ids)) g m ∙ and_assoc good (f here && not (is_marked seen n)) (once f (mark seen n) (drop (k + 1) ids))
-          ∙ ap (λ (l : List PageId). good && once f seen l) (sym rest) ∙ w.found;
+      found = ap₂ (λ (b : Bool) (l : List Bool). b && once f l (drop (k + 1) ids)) g m
+          ∙ and_assoc good (f here && not (is_marked seen here.0)) (once f (mark seen here.0) (drop (k + 1) ids)) ∙ ap (λ (l : List PageId). good && once f seen l) (sym rest) ∙ w.found;
       map = ap (λ (l : List Bool). marked l (ids_of (drop (k + 1) ids))) m ∙ ap (λ (l : List PageId). marked seen (ids_of l)) (sym rest) ∙ w.map;
     }
 
     -- page id 0 is passed over
-    pub walk_null : n ≡ 0 → f here ≡ true → Walked f ids seen₀ (k + 1) seen good
+    pub walk_null : here.0 ≡ 0 → f here ≡ true → Walked f ids seen₀ (k + 1) seen good
     unfolding is_marked mark
     walk_null z e = turn seen good (rw (e, z) (sym (and-true good))) (rw z)
 
     -- any other is tested and marked
-    pub walk_id : 1 ≤ n → (passed again : Bool) → passed ≡ f here → again ≡ get_or seen (n - 1) false → Walked f ids seen₀ (k + 1) (set seen (n - 1) true) ((good && passed) && not again)
-    walk_id lo passed again p a =
+    pub walk_id : (n : ℕ) → n ≡ here.0 → 1 ≤ n → (passed : Bool) → passed ≡ f (page_id n) → Walked f ids seen₀ (k + 1) (set seen (n - 1) true) ((good && passed) && not (get_or seen (n - 1) false))
+    walk_id n at lo passed p =
+        let again = get_or seen (n - 1) false in
         turn (set seen (n - 1) true) ((good && passed) && not again)
-        (and_assoc good passed (not again) ∙ ap₂ (λ (s t : Bool). good && (s && not t)) p (a ∙ marked_before seen n lo))
-        (mark_at seen n lo)
+        (and_assoc good passed (not again) ∙ ap₂ (λ (s t : Bool). good && (s && not t)) (p ∙ ap (λ (m : ℕ). f (page_id m)) at) (marked_before seen n lo ∙ ap (is_marked seen) at))
+        (mark_at seen n lo ∙ ap (mark seen) at)

@@ -6,10 +6,11 @@ use mathlib.Core.Bool.{Bool, true, false, ◌&&◌, cond, and-false}
 use mathlib.Core.List.{List, [], ◌∷◌}
 use lib.Dec.{ltb}
 use lib.ListN.{length}
+use Rattle.paper.specs.declared.Bank.{Bank}
 use Rattle.paper.specs.declared.Control.{Control}
 use Rattle.paper.specs.declared.Header.{Header}
 use Rattle.paper.specs.Lists.{all, those, distinct}
-use Rattle.paper.specs.Tables.{Bank, PS, Tables, live}
+use Rattle.paper.specs.Tables.{PS, Tables, live}
 use Rattle.paper.specs.Bytes.{ids_of}
 use Rattle.paper.specs.Sound.{s1, s2, s3, s4, s5, good_header, zero_header, header_sound, held, page_ids, sound}
 use Rattle.records.proofs.Zeros.{all_append}

@@ -1,14 +1,14 @@
 -- The map of page slots seen, and the headers tested one after the other over it. Only contracts of this crate's own functions cite these.
-use Rattle.std.specs.Prelude.{ℕ, zero, suc, ◌≤◌, ◌≡◌, Bool, true, false, not, ◌&&◌, ◌||◌, cond, List, [], ◌∷◌, map, length, get_or, set, replicate, leb, ltb}
+use Rattle.std.specs.Prelude.{ℕ, zero, suc, ◌≤◌, ◌≡◌, Bool, true, false, not, ◌&&◌, ◌||◌, cond, List, [], ◌∷◌, map, length, get_or, set, replicate, leb, ltb, Option, Some, None, Result, Ok, Err}
+use Rattle.paper.specs.declared.Bank.{Bank}
 use Rattle.paper.specs.declared.PageId.{PageId}
 use Rattle.paper.specs.declared.Control.{Control}
 use Rattle.paper.specs.declared.Header.{Header}
 use Rattle.paper.specs.Lists.{those, is_zero}
-use Rattle.paper.specs.Tables.{Bank, PS, live, slot_at}
+use Rattle.paper.specs.Tables.{PS, live, slot_at}
 use Rattle.paper.specs.Bytes.{ids_of}
 use Rattle.paper.specs.Sound.{zero_header, good_header}
-use Rattle.sound.specs.declared.Checked.{Checked}
-use Rattle.sound.specs.declared.Checked.TheVariants.{Broken, Empty, Named}
+use Rattle.sound.specs.declared.Broken.{Broken}
 
 -- a map with room for every slot, and none marked
 pub record Unmarked (slots : ℕ) (seen : List Bool) : Type 0 where
@@ -59,6 +59,6 @@ all_pass b c ps seen [] = true
 all_pass b c ps seen (h ∷ hs) = passes b c ps seen h && all_pass b c ps (seen_after b c seen h) hs
 
 -- what is told of a header: its id where it is in use
-unfoldable pub told : Bool → Header → Checked
-told false h = Broken
-told true h = cond h.used (Named h.id.0) Empty
+unfoldable pub told : Bool → Header → Result (Option ℕ) Broken
+told false h = Err (record {})
+told true h = Ok (cond h.used (Some h.id.0) None)

@@ -1,25 +1,15 @@
--- `all_distinct` compares each id with those after it: what is left from i on says whether all are distinct.
-use mathlib.Core.Path.{sym, ◌∙◌}
-use native.Mathlib.Omega.{arith}
-use Rattle.sound.proofs.Walks.{distinct_turn, distinct_end}
+-- `all_distinct` compares each id with those after it: what is left says whether all are distinct.
+use mathlib.Core.Path.{◌≡◌, sym, ap, ◌∙◌}
+use mathlib.Core.Bool.{Bool, ◌&&◌}
+use Rattle.paper.specs.Lists.{absent, distinct}
+use Rattle.sound.proofs.all_distinct.Goals.{After-absent}
 use Rattle.sound.proofs.all_distinct.Goals as goal
 
-pub returns-then-not-absent_from : goal.returns-then-not-absent_from
-returns-then-not-absent_from c =
-    let l = c.loop-i in
-    let ids = c.args.ids.now in
-    let e = sym c.absent_from.ensures ∙ c.if-not-absent_from.true in
-    sym (sym l.invariant ∙ distinct_turn ids l.i (omega arith) _ e)
+turn : (t : After-absent) (s : Bool) → s ≡ absent t.in-Some.id.now t.in-Some.others.now → s && distinct t.in-Some.others.now ≡ distinct t.args.ids.now
+turn t s e = ap (λ (u : Bool). u && distinct t.in-Some.others.now) e ∙ ap distinct (sym t.in-Some.ensures.cases.0) ∙ t.loop-id.invariant
 
-pub loop-i-preserved : goal.loop-i-preserved
-loop-i-preserved c =
-    let l = c.loop-i in
-    let ids = c.args.ids.now in
-    let e = sym c.absent_from.ensures ∙ c.if-not-absent_from.false in
-    sym (sym l.invariant ∙ distinct_turn ids l.i (omega arith) _ e)
+pub returns-then-not-absent : goal.returns-then-not-absent
+returns-then-not-absent c = turn (goal.at.returns-then-not-absent c).After-absent _ c.if-not-absent.ensures
 
-pub returns : goal.returns
-returns c =
-    let l = c.loop-i in
-    let ids = c.args.ids.now in
-    sym (distinct_end ids l.i (omega arith)) ∙ l.invariant
+pub loop-id-preserved : goal.loop-id-preserved
+loop-id-preserved c = turn (goal.at.loop-id-preserved c).After-absent _ c.if-not-absent.ensures

@@ -4,4 +4,4 @@ use Rattle.sound.proofs.good_header.Goals as goal
 
 pub returns : goal.returns
 unfolding good_header
-returns c = λ size. cc c.ids_within.ensures
+returns c = cc c.ids_within.ensures

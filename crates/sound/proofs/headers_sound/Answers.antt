@@ -9,46 +9,42 @@ use Rattle.paper.specs.Lists.{distinct}
 use Rattle.paper.specs.Bytes.{hs_from}
 use Rattle.stores.proofs.HeaderSlots.{slots as all_slots}
 use Rattle.sound.specs.Seen.{ids_in_use}
-use Rattle.sound.proofs.Headers.{gather_broken, gather_empty, gather_named, gather_ends}
-use Rattle.sound.proofs.headers_sound.Goals.{In-loop-n, in-Empty, in-Named}
+use Rattle.sound.proofs.Headers.{gather_broken, gather_unused, gather_used, gather_ends}
+use Rattle.sound.proofs.headers_sound.Goals.{In-loop-n, in-Some, in_default-named}
 use Rattle.sound.proofs.headers_sound.Goals as goal
 
 in_table : (t : In-loop-n) → t.loop-n.n ≤ length (hs_from t.args.headers.now).headers
 in_table t = omega (arith, all_slots t.args.headers.now)
 
-pub returns-in-Broken : goal.returns-in-Broken
-returns-in-Broken c =
-    let t = (goal.at.returns-in-Broken c).In-loop-n in
+pub returns-in_default : goal.returns-in_default
+returns-in_default c =
     let l = c.loop-n in
     let hs = (hs_from c.args.headers.now).headers in
-    sym (ap (λ (p : Bool). p && distinct (ids_in_use hs)) (gather_broken l.invariant.4 l.invariant.0 (in_table t) (sym c.in-Broken.ensures.value)))
+    let here = in_table (goal.at.returns-in_default c).In-loop-n in
+    sym (ap (λ (p : Bool). p && distinct (ids_in_use hs)) (gather_broken l.invariant.2 l.auto.n here _ (sym c.in_default.ensures.value)))
 
 pub loop-n-preserved : goal.loop-n-preserved
 loop-n-preserved c =
-    let t = (goal.at.loop-n-preserved c).In-loop-n in
     let l = c.loop-n in
-    let h = c.header_sound in
-    let told = sym h.ensures.value in
-    let long = h.auto.seen ∙ l.invariant.2 in
-    elim c.match-header_sound.branch [
-      | in-Empty w ↦ (
-        omega arith,
-        omega arith,
+    let g = l.invariant.2 in
+    let here = in_table (goal.at.loop-n-preserved c).In-loop-n in
+    let told = sym c.in-Ok.ensures.value in
+    let marks = c.in-Ok.ensures.marks in
+    let long = c.header_sound.auto.seen ∙ l.invariant.0 in
+    elim c.match-named.branch [
+      | in-Some w ↦ (
         long,
-        ap length w.ids-is ∙ l.invariant.3,
-        rw (w.ids-is, w.count-is) (gather_empty l.invariant.4 l.invariant.0 (in_table t) _ (told ∙ w.in-Empty.is) h.ensures.marks),
+        ap length w.ids-is ∙ simp length-set l.invariant.1,
+        rw (w.ids-is, w.count-is) (gather_used g l.auto.n here _ _ told marks _ w.in-Some.is (omega (arith, g.few))),
       )
-      | in-Named w ↦ (
-        omega arith,
-        omega arith,
+      | in_default-named w ↦ (
         long,
-        ap length w.ids-is ∙ simp length-set l.invariant.3,
-        rw (w.ids-is, w.count-is) (gather_named l.invariant.4 l.invariant.0 (in_table t) _ _ (told ∙ w.in-Named.is) h.ensures.marks (omega (arith, l.invariant.4.few))),
+        ap length w.ids-is ∙ l.invariant.1,
+        rw (w.ids-is, w.count-is) (gather_unused g l.auto.n here _ _ told marks w.in_default-named.is),
       )
     ]
 
 pub returns : goal.returns
 returns c =
-    let l = c.loop-n in
-    let e = gather_ends l.invariant.4 (omega (arith, all_slots c.args.headers.now)) in
+    let e = gather_ends c.loop-n.invariant.2 (omega (arith, all_slots c.args.headers.now)) in
     c.all_distinct.ensures ∙ ap₂ (λ (p : Bool) (ids : List ℕ). p && distinct ids) (sym e.0) e.1

@@ -1,22 +1,13 @@
--- `zeros` joins the bytes by or: what is gathered and what is left say whether all are zero.
-use Prim.Native.Nat.{◌+◌, ◌<◌}
-use mathlib.Core.Path.{sym, ap, ◌∙◌}
-use mathlib.Core.Bool.{Bool, ◌&&◌}
-use native.Mathlib.Omega.{arith}
-use lib.ListN.{length, drop, get_or}
-use Rattle.paper.specs.Lists.{all, is_zero}
-use Rattle.sound.proofs.Walks.{or_zero, all_turn, all_end}
+-- `zeros` joins the bytes by or, and an or is 0 where both are.
+use mathlib.Core.Path.{◌≡◌, refl, ap, ◌∙◌}
+use lib.Bits.{bit_or}
+use Rattle.paper.specs.Lists.{is_zero}
+use Rattle.paper.proofs.Tests.{fold_all}
+use Rattle.sound.proofs.Walks.{or_zero}
+use Rattle.std.proofs.Common.{rules}
 use Rattle.sound.proofs.zeros.Goals as goal
-
-pub loop-i-preserved : goal.loop-i-preserved
-loop-i-preserved c =
-    let l = c.loop-i in
-    let s = c.args.s.now in
-    let h : l.i < length s = omega arith in
-    ap (λ (b : Bool). b && all is_zero (drop (l.i + 1) s)) (or_zero l.any (get_or s l.i 0)) ∙ all_turn is_zero 0 s (is_zero l.any) l.i h ∙ l.invariant
 
 pub returns : goal.returns
 returns c =
-    let l = c.loop-i in
-    let s = c.args.s.now in
-    sym (all_end is_zero 0 s (is_zero l.any) l.i (omega arith)) ∙ l.invariant
+    fold_all c.fold.ensures.ran c.iter.ensures.rest is_zero is_zero refl
+    (λ a x b f k. let e : b ≡ bit_or a x.now = search rules in (ap is_zero e ∙ or_zero a x.now, search rules))
