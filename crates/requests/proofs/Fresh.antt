@@ -7,7 +7,8 @@ use native.Mathlib.Nat.{zero-add, zero-mul, suc-mul}
 use native.Mathlib.Omega.{arith}
 use lib.ListN.{length, take, drop, replicate, replicate-append-replicate}
 use Rattle.bits.specs.Field.{value, unpack, splice}
-use Rattle.paper.specs.Tables.{Bank, no_header, no_slot, header_slots, fresh}
+use Rattle.paper.specs.declared.Bank.{Bank}
+use Rattle.paper.specs.Tables.{no_header, no_slot, header_slots, fresh}
 use Rattle.paper.specs.Bytes.{record_size, headers_length, pages_length, slot_size, control_bytes, spare_from, header_bytes, slot_bytes, joined, header_table, page_table}
 use Rattle.records.proofs.Records.{control_length}
 use Rattle.stores.proofs.Slots.{no_slot_bytes}

@@ -1,7 +1,6 @@
 pub mod Runs
 pub mod Conditions
 pub mod Fits
-pub mod Endings
 pub mod Named
 pub mod Replies
 pub mod Owned

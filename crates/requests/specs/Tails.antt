@@ -1,9 +1,10 @@
 -- What is left of a request once its header is found, as rows of steps.
 use Rattle.std.specs.Prelude.{ℕ, List, [], ◌∷◌}
+use Rattle.paper.specs.declared.Bank.{Bank}
 use Rattle.paper.specs.declared.PageNum.{PageNum}
 use Rattle.paper.specs.declared.Header.{Header}
 use Rattle.paper.specs.Ids.{file_id, page_id}
-use Rattle.paper.specs.Tables.{Bank, get_page_id}
+use Rattle.paper.specs.Tables.{get_page_id}
 use Rattle.paper.specs.Stores.{create_page, destroy_page, set_page_expiry, replace_header}
 use Rattle.paper.specs.Steps.{Steps, ◌>>=◌, ◌>>◌, give, step, cleanup, header_step, each_page, on_pages}
 use Rattle.paper.specs.Answers.{Gift, an_id}

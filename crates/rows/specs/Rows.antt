@@ -1,8 +1,9 @@
 -- The rows of steps that several requests share, and the clock.
 use Rattle.std.specs.Prelude.{ℕ, Bool, cond, List}
+use Rattle.paper.specs.declared.Bank.{Bank}
 use Rattle.paper.specs.declared.FileId.{FileId}
 use Rattle.paper.specs.declared.PageId.{PageId}
-use Rattle.paper.specs.Tables.{Bank, HS, PS, with_control}
+use Rattle.paper.specs.Tables.{HS, PS, with_control}
 use Rattle.paper.specs.Stores.{Try, destroy_page, set_page_expiry, read_header}
 use Rattle.paper.specs.Steps.{Steps, ◌>>=◌, ◌>>◌, give, ask, step, cleanup, each_page, on_headers, on_pages}
 use Rattle.paper.specs.Requests.{header_in, check_owner}

@@ -1,28 +1,19 @@
-// Rows of steps that several requests share, and the clock.
-#![tactic(auto)]
-
-pub mod ends;
-pub mod forms;
+// Rows of steps that several requests share, and the clock. Lengths are clauses, as in `stores` and `requests`.
+#![tactic(auto, unfolding(paper::specs::Steps::settle, paper::specs::Steps::pass_over, paper::specs::Steps::follow, paper::specs::Steps::give))]
 
 ghost use Rattle.std.specs.Prelude.{◌≡◌, Bool, true, false, cond, ℕ, ◌+◌, ◌≤◌, List, [], ◌∷◌, length};
 ghost use Rattle.paper.specs.Tables.{HS, PS};
 ghost use Rattle.paper.specs.Steps.{done, attempt, State, follow, give, settle, pass_over};
 ghost use Rattle.paper.specs.Bytes.{headers_length, hs_from, ps_from};
-ghost use Rattle.stores.specs.Geometry.{Geometry, bank};
-ghost use Rattle.rows.specs.Ends.{standing, named};
+ghost use Rattle.stores.specs.Geometry.{Geometry, of_known, of_slot};
+ghost use Rattle.rows.specs.Standing.{standing, named};
 ghost use Rattle.rows.specs.Rows.{clocked, opening, deed_on, each_deed};
 
-use paper::{FileId, PageId, Step};
+use paper::{Bank, FileId, PageId, Refusal};
+use stores::slot::HeaderSlot;
 
-// How a row of steps went, and how many steps of the request were then taken.
-#[derive(Clone, Copy)]
-pub struct Row {
-    pub step: Step,
-    pub taken: usize,
-}
-
-// What a row does to a page.
-#[derive(Clone, Copy)]
+// What a row does to a page. An enum: of a closure each row would have to be told which step of the definitions it is.
+#[derive(Clone, Copy, PartialEq, Eq, Debug)]
 pub enum Deed {
     Destroy,
     Expire(u32),
@@ -38,117 +29,93 @@ pub fn set_clock(headers: &mut [u8], time: u32)
     records::put_control(headers, c);
 }
 
-// The clock stored, then step 1 and the owner check: the number of the header's slot.
-pub fn open(headers: &mut [u8], outcomes: &[u8], time: u32, client: u16, id: FileId) -> Step
+// The clock stored, then step 1 and the owner check: the header's slot.
+pub fn open(
+    headers: &mut [u8],
+    outcomes: &[u8],
+    time: u32,
+    client: u16,
+    id: FileId,
+) -> Result<HeaderSlot, Refusal>
     requires { (length headers.old ≡ headers_length) × (length outcomes.now ≡ 18) }
     ensures headers_after { hs_from headers.new ≡ clocked time (hs_from headers.old) }
-    ensures steps { (ps : PS) → settle result (standing 1 false (hs_from headers.new) ps) ≡ opening time client id outcomes.now (standing 0 false (hs_from headers.new) ps) }
+    ensures steps { (ps : PS) → settle (of_slot result) (standing 1 false (hs_from headers.new) ps) ≡ opening time client id outcomes.now (standing 0 false (hs_from headers.new) ps) }
 {
     set_clock(headers, time);
-    let found = stores::headers::read_header(headers, outcomes[0], time, id);
-    let Step::Gone(n) = found else {
-        return found;
-    };
-    let h = records::header(headers, n as usize);
-    if h.owner != client {
-        return Step::Refused(5);
+    let slot = stores::headers::read_header(headers, outcomes[0], time, id)?;
+    if records::header(headers, slot.number).owner != client {
+        return Err(Refusal::NotOwner);
     }
-    found
+    Ok(slot)
 }
 
-// What a row makes of a page's step: nothing is told of it, and a refusal is passed over where `pass` says so.
-fn passed_over(s: Step, pass: bool) -> Step
-    ensures { (os : List ℕ) (st : State) → settle result st ≡ follow (cond pass (pass_over s st) (settle s st)) os (λ n. give 0) }
+// What a row makes of a page's step: a refusal is passed over where `pass` says so, but not a cut.
+fn passed_over(step: Result<(), Refusal>, pass: bool) -> Result<(), Refusal>
+    ensures { (n : ℕ) (os : List ℕ) (st : State) → settle (of_known 0 result) st ≡ follow (cond pass (pass_over (of_known n step) st) (settle (of_known n step) st)) os (λ m. give 0) }
 {
-    match s {
-        Step::Gone(_) => Step::Gone(0),
-        Step::Refused(a) => {
-            if pass {
-                Step::Gone(0)
-            } else {
-                Step::Refused(a)
-            }
-        }
-        Step::Cut => Step::Cut,
+    match step {
+        Err(r) if pass && r != Refusal::Cut => Ok(()),
+        _ => step,
     }
 }
 
 // A page's step: the page destroyed, or its expiry set.
 fn deed_step(
     pages: &mut [u8],
-    slots: usize,
-    size: usize,
+    bank: Bank,
     outcome: u8,
     id: PageId,
     deed: Deed,
-) -> Step
-    requires geometry { Geometry slots size pages.old }
-    requires le_id { (1 ≤ id.0) × (id.0 ≤ slots) }
-    ensures { done result (ps_from (bank slots size) pages.new) ≡ attempt outcome (deed_on (bank slots size) deed id) (ps_from (bank slots size) pages.old) }
+) -> Result<(), Refusal>
+    requires geometry { Geometry bank pages.old }
+    requires le_id { (1 ≤ id.0) × (id.0 ≤ bank.slots) }
+    ensures { done (of_known id.0 result) (ps_from bank pages.new) ≡ attempt outcome (deed_on bank deed id) (ps_from bank pages.old) }
 {
     match deed {
-        Deed::Destroy => stores::pages::destroy_page(pages, slots, size, outcome, id),
-        Deed::Expire(e) => stores::pages::set_page_expiry(pages, slots, size, outcome, id, e),
+        Deed::Destroy => stores::pages::destroy_page(pages, bank, outcome, id),
+        Deed::Expire(e) => stores::pages::set_page_expiry(pages, bank, outcome, id, e),
     }
 }
 
-// The deed done to one page, if there is one: page id 0 makes no step. A refusal is passed over where `pass` says so.
+// The deed done to one page, if there is one: page id 0 makes no step. `taken` counts the request's steps: which byte
+// of the list is next, and in the contract where the request then stands.
 pub fn one_page(
     pages: &mut [u8],
-    slots: usize,
-    size: usize,
+    bank: Bank,
     outcomes: &[u8],
-    from: usize,
+    taken: &mut usize,
     id: PageId,
     deed: Deed,
     pass: bool,
-) -> Row
-    requires geometry { Geometry slots size pages.old }
-    requires from_in_bounds { (from + 1 ≤ length outcomes.now) × (id.0 ≤ slots) }
-    ensures { (result.taken ≤ from + 1) × ((past : Bool) (hs : HS) → settle result.step (standing result.taken past hs (ps_from (bank slots size) pages.new)) ≡ each_deed (bank slots size) deed pass (id ∷ []) outcomes.now (standing from past hs (ps_from (bank slots size) pages.old))) }
+) -> Result<(), Refusal>
+    requires geometry { Geometry bank pages.old }
+    requires taken_in_bounds { (taken.old + 1 ≤ length outcomes.now) × (id.0 ≤ bank.slots) }
+    ensures { (taken.new ≤ taken.old + 1) × ((past : Bool) (hs : HS) → settle (of_known 0 result) (standing taken.new past hs (ps_from bank pages.new)) ≡ each_deed bank deed pass (id ∷ []) outcomes.now (standing taken.old past hs (ps_from bank pages.old))) }
 {
     if id.0 == 0 {
-        return Row {
-            step: Step::Gone(0),
-            taken: from,
-        };
+        return Ok(());
     }
-    let s = deed_step(pages, slots, size, outcomes[from], id, deed);
-    Row {
-        step: passed_over(s, pass),
-        taken: from + 1,
-    }
+    let outcome = outcomes[*taken];
+    *taken += 1;
+    passed_over(deed_step(pages, bank, outcome, id, deed), pass)
 }
 
 // The deed done to each page, by rising page number.
 pub fn each_page(
     pages: &mut [u8],
-    slots: usize,
-    size: usize,
+    bank: Bank,
     outcomes: &[u8],
-    from: usize,
+    taken: &mut usize,
     ids: [PageId; 16],
     deed: Deed,
     pass: bool,
-) -> Row
-    requires geometry { Geometry slots size pages.old }
-    requires from_in_bounds { (from + 16 ≤ length outcomes.now) × (named slots ids ≡ true) }
-    ensures { (result.taken ≤ from + 16) × ((past : Bool) (hs : HS) → settle result.step (standing result.taken past hs (ps_from (bank slots size) pages.new)) ≡ each_deed (bank slots size) deed pass ids outcomes.now (standing from past hs (ps_from (bank slots size) pages.old))) }
+) -> Result<(), Refusal>
+    requires geometry { Geometry bank pages.old }
+    requires taken_in_bounds { (taken.old + 16 ≤ length outcomes.now) × (named bank.slots ids ≡ true) }
+    ensures { (taken.new ≤ taken.old + 16) × ((past : Bool) (hs : HS) → settle (of_known 0 result) (standing taken.new past hs (ps_from bank pages.new)) ≡ each_deed bank deed pass ids outcomes.now (standing taken.old past hs (ps_from bank pages.old))) }
 {
-    let mut taken = from;
-    let mut k = 0;
-    while k < 16 {
-        let p = ids[k];
-        let row = one_page(pages, slots, size, outcomes, taken, p, deed, pass);
-        let s = row.step;
-        let Step::Gone(_) = s else {
-            return row;
-        };
-        taken = row.taken;
-        k += 1;
+    for id in ids {
+        one_page(pages, bank, outcomes, taken, id, deed, pass)?;
     }
-    Row {
-        step: Step::Gone(0),
-        taken,
-    }
+    Ok(())
 }

@@ -12,13 +12,13 @@ pub returns-in_default : goal.returns-in_default
 returns-in_default c = sym (named_none _ _ _ _ (sym c.find_header.ensures ∙ c.in_default.is))
 
 -- the search found slot n
-pub header-h-requires : goal.header-h-requires
-header-h-requires c = let i = found_slot _ _ _ (sym c.find_header.ensures ∙ c.in-At.is) in omega (arith, c.requires.headers_len)
+pub header-requires : goal.header-requires
+header-requires c = let i = found_slot _ _ _ (sym c.find_header.ensures ∙ c.in-Some.is) in omega (arith, c.requires.headers_len)
 
 pub returns : goal.returns
 returns c =
-    let found = sym c.find_header.ensures ∙ c.in-At.is in
+    let found = sym c.find_header.ensures ∙ c.in-Some.is in
     let i = found_slot _ _ _ found in
-    c.page_of.ensures
-    ∙ ap (λ (h : Header). get_page_id h c.args.number) (c.header-h.ensures ∙ sym (header_place _ _ i.0 i.1))
+    c.page.ensures
+    ∙ ap (λ (h : Header). get_page_id h c.args.number) (c.header.ensures ∙ sym (header_place _ _ i.0 i.1))
     ∙ sym (named_at _ _ _ _ _ found)
