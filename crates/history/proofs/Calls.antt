@@ -4,7 +4,7 @@ use Prim.Native.Nat.{ℕ, ◌≤◌}
 use mathlib.Core.Path.{◌≡◌, sym, ap, ◌∙◌}
 use mathlib.Core.Bool.{true}
 use mathlib.Core.List.{List}
-use Rattle.paper.specs.Tables.{Bank}
+use Rattle.paper.specs.declared.Bank.{Bank}
 use Rattle.paper.specs.Sound.{sound}
 use Rattle.paper.specs.Answers.{Request}
 use Rattle.paper.specs.Requests.{serve}
@@ -28,7 +28,7 @@ module _ (b : Bank) (few : b.slots ≤ 511) (headers pages : List ℕ) (l : Buff
       let r = serve b now os q t in
       let f = buffers_fit b headers pages l in
       let k = served_kept b now os q t f ok in
-      let e : left s.answer s.page s.headers s.pages ≡ written (serve b now os q (tables_from b headers pages)) = a.2 ∙ served_bytes b headers pages l now os q in
+      let e : left s.report s.page s.headers s.pages ≡ written (serve b now os q (tables_from b headers pages)) = a.2 ∙ served_bytes b headers pages l now os q in
       let same : tables_from b s.headers s.pages ≡ (serve b now os q (tables_from b headers pages)).tables =
       ap (λ (w : Left). tables_from b w.headers w.pages) e ∙ read_back b r.tables (served_fits b now os q t f ok few a.0 a.1) in
       record {
@@ -44,6 +44,6 @@ module _ (b : Bank) (few : b.slots ≤ 511) (headers pages : List ℕ) (l : Buff
 
   pub call : (a : Asked) → Allowed b headers pages s a → Call b headers pages s a
   call formats e =
-      let f = formatted b headers pages s.headers s.pages l.header_table_len l.page_table_len s.answer e in
+      let f = formatted b headers pages s.headers s.pages l.header_table_len l.page_table_len s.report e in
       record { sound = f.0; shown = f.1; agreed = tt }
   call (asks now os q) a = request_call now os q a

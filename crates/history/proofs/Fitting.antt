@@ -7,27 +7,34 @@ use mathlib.Core.List.{List, [], ◌∷◌}
 use native.Mathlib.Omega.{arith}
 use lib.ListN.{length}
 use lib.Dec.{eqb, leb}
+use borrow.Author.Tests.{eqb-true}
 use Rattle.bits.specs.Field.{Bytes}
 use Rattle.bits.specs.Field.Within.{one}
+use Rattle.paper.specs.declared.Bank.{Bank}
 use Rattle.paper.specs.declared.FileId.{FileId}
 use Rattle.paper.specs.declared.PageId.{PageId}
 use Rattle.paper.specs.declared.PageNum.{PageNum}
 use Rattle.paper.specs.declared.Header.{Header}
+use Rattle.paper.specs.declared.Refusal.TheVariants.{NotOwner, NoSuchPage}
 use Rattle.paper.specs.Ids.{file_id, page_id, later}
 use Rattle.paper.specs.Lists.{is_zero}
-use Rattle.paper.specs.Tables.{Bank, Tables, get_page_id, slot_at, with_clock}
+use Rattle.paper.specs.Tables.{Tables, get_page_id, slot_at, with_clock}
 use Rattle.paper.specs.Stores.{read_header, create_page, destroy_page}
 use Rattle.paper.specs.Steps.{Run, on, end, State, step, cleanup, ask, each_page, on_headers, on_pages}
 use Rattle.paper.specs.Answers.{Request, Create, Write, Read, Info, Destroy, SetExpiry, Scavenge, lent_page, Gift, nothing, an_id, facts, counts, contents}
-use Rattle.paper.specs.Requests.{header_in, make_header, put_page_id, set_header_expiry, facts_of, create, write, read, info, destroy, set_expiry, scavenge, steps_of, reply_of, carry_out, well_formed}
+use Rattle.paper.specs.Requests.{header_in, make_header, put_page_id, set_header_expiry, facts_of, create, write, read, info, destroy, set_expiry, scavenge, steps_of, reply_of, carry_out, page_fits, well_formed}
+use Rattle.paper.proofs.Tests.{right}
 use Rattle.records.specs.Fits.{HeaderFits}
 use Rattle.stores.proofs.Slots.{full_slot_fits}
 use Rattle.requests.proofs.Fits.{made_fits, paged_fits, expiring_fits}
-use Rattle.service.proofs.Admission.{page_fits_lem}
 use Rattle.history.specs.History.{Given}
 use Rattle.plain.proofs.Logic.{Ends}
 use Rattle.history.proofs.Keeping.{Keeping, Any, ◌>>=◌, ◌>>◌, keeps_give, keeps_ask, keeps_either, keeps_check, keeps_each}
 use Rattle.history.proofs.Ranges.{Fit, header_fits, replace_fits, create_fits, read_fits, destroy_fits, scavenge_fits, create_page_fits, read_page_fits, destroy_page_fits, expiry_fits, scavenge_pages_fits, clocked_fits, on_headers_lem, at_header, on_pages_lem, after_pages}
+
+page_length : (b : Bank) (number : PageNum) (page : List ℕ) → page_fits b number page ≡ true → length page ≡ b.size
+unfolding page_fits
+page_length b number page e = eqb-true (length page) b.size (right (leb number.0 15) (eqb (length page) b.size) e)
 
 expiry_small : (h : Header) → HeaderFits h → h.expires < 2 ^ 32
 expiry_small h (one u (one i (one o (one c (one d (one e r)))))) = e
@@ -70,7 +77,7 @@ module _ (b : Bank) (few : b.slots ≤ 511) (now : ℕ) (time : now < 2 ^ 32) wh
     write_fitting id =
         finds id >>= λ n _.
         learns n >>= λ h f.
-        keeps_check (eqb h.owner client) 5 >>
+        keeps_check (eqb h.owner client) NotOwner >>
         makes_page page h.expires bytes whole (expiry_small h f) >>= λ p le.
         at_header (replace_fits n _ (with_page_lem number p h le f)) >>= λ i _.
         wipes (get_page_id h number ∷ []) >>
@@ -81,7 +88,7 @@ module _ (b : Bank) (few : b.slots ≤ 511) (now : ℕ) (time : now < 2 ^ 32) wh
   read_fitting id number =
       finds id >>= λ n _.
       learns n >>= λ h _.
-      keeps_check (not (is_zero (get_page_id h number).0)) 6 >>
+      keeps_check (not (is_zero (get_page_id h number).0)) NoSuchPage >>
       on_pages_lem (read_page_fits b (get_page_id h number)) >>= λ p _.
       keeps_ask {Q = Any} (λ t. (slot_at b t.ps (page_id p)).contents) (λ t w. tt) >>= λ c _.
       keeps_give (contents c)
@@ -98,7 +105,7 @@ module _ (b : Bank) (few : b.slots ≤ 511) (now : ℕ) (time : now < 2 ^ 32) wh
   destroy_fitting client id =
       finds id >>= λ n _.
       learns n >>= λ h _.
-      keeps_check (eqb h.owner client) 5 >>
+      keeps_check (eqb h.owner client) NotOwner >>
       at_header (destroy_fits n) >>
       wipes h.pages >>
       keeps_give nothing
@@ -110,7 +117,7 @@ module _ (b : Bank) (few : b.slots ≤ 511) (now : ℕ) (time : now < 2 ^ 32) wh
       let small : later expires now < 2 ^ 32 = omega arith in
       finds id >>= λ n _.
       learns n >>= λ h f.
-      keeps_check (eqb h.owner client) 5 >>
+      keeps_check (eqb h.owner client) NotOwner >>
       let stored = at_header {b = b} (replace_fits n (set_header_expiry now e h) (expiring_fits now time e h (set_header_expiry now e h) refl small f)) in
       keeps_either (leb h.expires e)
       (keeps_each _ (λ q. on_pages_lem (expiry_fits b e small q)) h.pages >> stored)
@@ -127,8 +134,8 @@ module _ (b : Bank) (few : b.slots ≤ 511) (now : ℕ) (time : now < 2 ^ 32) wh
 
   steps_fitting : (q : Request) → Given q → well_formed b q ≡ true → Keeping (Fit b) (steps_of b now q) Any
   unfolding steps_of well_formed
-  steps_fitting (Create client number page expires) g w = create_fitting client number page g.1 (page_fits_lem b number page w).1 expires g.0 g.2
-  steps_fitting (Write client id number page) g w = write_fitting client number page g.1 (page_fits_lem b number page w).1 id
+  steps_fitting (Create client number page expires) g w = create_fitting client number page g.1 (page_length b number page w) expires g.0 g.2
+  steps_fitting (Write client id number page) g w = write_fitting client number page g.1 (page_length b number page w) id
   steps_fitting (Read id number lent) g w = read_fitting id number
   steps_fitting (Info id) g w = info_fitting id
   steps_fitting (Destroy client id) g w = destroy_fitting client id
@@ -141,6 +148,6 @@ module _ (b : Bank) (few : b.slots ≤ 511) (now : ℕ) (time : now < 2 ^ 32) wh
       let s : State = record { taken = 0; past = false; tables = with_clock now t } in
       go (steps_of b now q os s) ((steps_fitting q g w).run os s (clocked_fits b now t time f))
     where
-      go : (r : Run Gift) → Ends (λ n u t. Fit b t) (λ a u t. Fit b t × Any a) r → Fit b (reply_of (lent_page q) r).tables
+      go : (r : Run Gift) → Ends (λ a u t. Fit b t) (λ a u t. Fit b t × Any a) r → Fit b (reply_of (lent_page q) r).tables
       go (on a s) p = p.0
-      go (end n s) p = p
+      go (end a s) p = p

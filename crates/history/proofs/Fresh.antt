@@ -6,11 +6,11 @@ use mathlib.Core.Bool.{true}
 use mathlib.Core.List.{List, []}
 use borrow.Author.Tests.{eq-eqb}
 use lib.ListN.{length, replicate}
-use Rattle.paper.specs.declared.Answer.{Answer}
+use Rattle.paper.specs.declared.Bank.{Bank}
 use Rattle.paper.specs.Lists.{all, lowest_from}
-use Rattle.paper.specs.Tables.{Bank, no_slot, fresh}
+use Rattle.paper.specs.Tables.{no_slot, fresh}
 use Rattle.paper.specs.Sound.{s1, s2, s3, s4, s5, sound, header_sound, zero_header, slot_sound, page_ids}
-use Rattle.paper.specs.Answers.{nothing, succeeded, report}
+use Rattle.paper.specs.Answers.{Report, nothing, succeeded}
 use Rattle.paper.specs.Bytes.{headers_length, pages_length, tables_from, header_table, page_table}
 use Rattle.paper.specs.Service.{Left, format}
 use Rattle.paper.specs.Plain.{fresh_machine}
@@ -33,11 +33,11 @@ fresh_view : (b : Bank) → view b (fresh b) ≡ fresh_machine
 unfolding view lowest_from
 fresh_view b = refl
 
-pub formatted : (b : Bank) (headers pages hx px : List ℕ) → length headers ≡ headers_length → length pages ≡ pages_length b → (a : Answer) → left a [] hx px ≡ format b headers pages
-    → (sound b (tables_from b hx px) ≡ true) × (view b (tables_from b hx px) ≡ fresh_machine) × ((report a).number ≡ 0)
+pub formatted : (b : Bank) (headers pages hx px : List ℕ) → length headers ≡ headers_length → length pages ≡ pages_length b → (r : Report) → left r [] hx px ≡ format b headers pages
+    → (sound b (tables_from b hx px) ≡ true) × (view b (tables_from b hx px) ≡ fresh_machine) × (r.number ≡ 0)
 unfolding format
-formatted b headers pages hx px lh lp a e =
-    let w : left a [] hx px ≡ fresh_left = rw (eq-eqb _ _ lh, eq-eqb _ _ lp) at e in
+formatted b headers pages hx px lh lp r e =
+    let w : left r [] hx px ≡ fresh_left = rw (eq-eqb _ _ lh, eq-eqb _ _ lp) at e in
     let same : tables_from b hx px ≡ fresh b = ap (λ (k : Left). tables_from b k.headers k.pages) w ∙ read_back b (fresh b) (fresh_fits b) in
     (rw same (fresh_sound b), rw same (fresh_view b), ap (λ (k : Left). k.report.number) w)
   where

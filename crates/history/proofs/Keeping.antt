@@ -5,6 +5,7 @@ use mathlib.Core.Path.{subst}
 use mathlib.Core.Bool.{Bool, cond}
 use mathlib.Core.List.{List}
 use Rattle.paper.specs.declared.PageId.{PageId}
+use Rattle.paper.specs.declared.Refusal.{Refusal}
 use Rattle.paper.specs.Ids.{page_id}
 use Rattle.paper.specs.Tables.{HS, Tables}
 use Rattle.paper.specs.Stores.{Try, gone, no}
@@ -23,7 +24,7 @@ Any a = Unit {0}
 -- what a step's own conditions make of its store
 pub data Leaves {S : Type 0} (P : S → Type 0) (Q : ℕ → Type 0) : Try S → Type 0 where
   through : {n : ℕ} {s : S} → P s → Q n → Leaves P Q (gone n s)
-  refused : {a : ℕ} → Leaves P Q (no a)
+  refused : {a : Refusal} → Leaves P Q (no a)
 
 left_by : {S : Type 0} {P : S → Type 0} {Q : ℕ → Type 0} {n : ℕ} {s : S} → Leaves P Q (gone n s) → P s × Q n
 left_by (through p q) = (p, q)
@@ -49,7 +50,7 @@ module _ {P : Tables → Type 0} where
     pub keeps_either : {m k : Steps A} (c : Bool) → Keeping P m Any → Keeping P k Any → Keeping P (cond c m k) Any
     keeps_either c d e = chooses c (λ _. d) (λ _. e)
 
-  pub keeps_check : (c : Bool) (a : ℕ) → Keeping P (check c a) Any
+  pub keeps_check : (c : Bool) (a : Refusal) → Keeping P (check c a) Any
   keeps_check c a = checks c a (λ _ u t p. (p, tt)) (λ _ u t p. p)
 
   pub keeps_step : {Q : ℕ → Type 0} (f : Tables → Try Tables) → ((t : Tables) → P t → Leaves P Q (f t)) → Keeping P (step f) Q

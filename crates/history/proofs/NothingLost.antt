@@ -5,10 +5,9 @@ use mathlib.Core.Path.{◌≡◌, refl, ap, subst, ◌∙◌}
 use mathlib.Core.Bool.{true}
 use mathlib.Core.List.{List, []}
 use lib.ListN.{length}
-use Rattle.paper.specs.declared.Answer.{Answer}
-use Rattle.paper.specs.Tables.{Bank}
+use Rattle.paper.specs.declared.Bank.{Bank}
 use Rattle.paper.specs.Sound.{sound}
-use Rattle.paper.specs.Answers.{report}
+use Rattle.paper.specs.Answers.{Report}
 use Rattle.paper.specs.Bytes.{headers_length, pages_length, tables_from}
 use Rattle.paper.specs.Service.{format}
 use Rattle.paper.specs.Plain.{fresh_machine}
@@ -35,6 +34,6 @@ nothing_ever_lost b few headers pages l ok ss (then {s = s} {ss = rest} allowed 
 
 -- Format on tables of the right lengths answers 0 and leaves the fresh machine, whatever the bytes were. Assumes its border's contract.
 pub format_fresh : (b : Bank) (headers pages hx px : List ℕ) → length headers ≡ headers_length → length pages ≡ pages_length b
-    → (a : Answer) → left a [] hx px ≡ format b headers pages
-    → (sound b (tables_from b hx px) ≡ true) × (view b (tables_from b hx px) ≡ fresh_machine) × ((report a).number ≡ 0)
-format_fresh b headers pages hx px lh lp a e = formatted b headers pages hx px lh lp a e
+    → (r : Report) → left r [] hx px ≡ format b headers pages
+    → (sound b (tables_from b hx px) ≡ true) × (view b (tables_from b hx px) ≡ fresh_machine) × (r.number ≡ 0)
+format_fresh b headers pages hx px lh lp r e = formatted b headers pages hx px lh lp r e

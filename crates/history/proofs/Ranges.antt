@@ -4,18 +4,19 @@ use Prim.Native.Nat.{ℕ, zero, suc, ◌^◌, ◌<◌, ◌≤◌}
 use mathlib.Core.Path.{◌≡◌, refl, ◌∙◌}
 use mathlib.Core.Bool.{Bool, true, false, cond}
 use mathlib.Core.List.{List, map}
+use Rattle.std.specs.Prelude.{Option, Some, None}
 use native.Mathlib.Omega.{arith}
 use borrow.Author.Tests.{ltb-true}
 use lib.ListN.{get_or, set, replicate, length-map, length-replicate}
 use lib.Dec.{ltb}
+use Rattle.paper.specs.declared.Bank.{Bank}
 use Rattle.paper.specs.declared.FileId.{FileId}
 use Rattle.paper.specs.declared.PageId.{PageId}
 use Rattle.paper.specs.declared.Header.{Header}
-use Rattle.paper.specs.declared.Found.{Found}
-use Rattle.paper.specs.declared.Found.TheVariants.{At, Nothing}
+use Rattle.paper.specs.declared.Refusal.TheVariants.{NoSuchFile, NoSpace}
 use Rattle.paper.specs.Ids.{no_more_ids}
 use Rattle.paper.specs.Lists.{numbered, put_at, lowest}
-use Rattle.paper.specs.Tables.{Bank, Slot, HS, PS, Tables, no_header, no_slot, fresh, header_slots, header_at, header_free, slot_free, header_expired, slot_expired, put_header, with_control, with_clock}
+use Rattle.paper.specs.Tables.{Slot, HS, PS, Tables, no_header, no_slot, fresh, header_slots, header_at, header_free, slot_free, header_expired, slot_expired, put_header, with_control, with_clock}
 use Rattle.paper.specs.Stores.{Try, gone, no, issued, named, has_id, create_header, replace_header, read_header, destroy_header, scavenge_headers, full_slot, create_page, read_page, destroy_page, set_page_expiry, scavenge_pages}
 use Rattle.paper.specs.Steps.{step, cleanup, header_step, on_headers, in_headers, on_pages, in_pages}
 use Rattle.records.specs.Fits.{HeaderFits, SlotFits, Each, HSFits, PSFits}
@@ -92,17 +93,17 @@ pub create_fits : (now : ℕ) (h : Header) → HeaderFits h → (s : HS) → HSF
 unfolding create_header
 create_fits now h fh s f = go (lowest (header_free now) s.headers)
   where
-    go : (r : Found) → Leaves HSFits Any (elim r [ At n ↦ replace_header n h s | Nothing ↦ no 7 ])
-    go (At n) = replace_fits n h fh s f
-    go Nothing = refused
+    go : (r : Option ℕ) → Leaves HSFits Any (elim r [ Some n ↦ replace_header n h s | None ↦ no NoSpace ])
+    go (Some n) = replace_fits n h fh s f
+    go None = refused
 
 pub read_fits : (now : ℕ) (id : FileId) (s : HS) → HSFits s → Leaves HSFits Any (read_header now id s)
 unfolding read_header
 read_fits now id s f = go (lowest (has_id now id) s.headers)
   where
-    go : (r : Found) → Leaves HSFits Any (elim r [ At n ↦ gone n s | Nothing ↦ no 4 ])
-    go (At n) = through f tt
-    go Nothing = refused
+    go : (r : Option ℕ) → Leaves HSFits Any (elim r [ Some n ↦ gone n s | None ↦ no NoSuchFile ])
+    go (Some n) = through f tt
+    go None = refused
 
 pub destroy_fits : (n : ℕ) (s : HS) → HSFits s → Leaves HSFits Any (destroy_header n s)
 unfolding destroy_header

@@ -1,10 +1,10 @@
 -- A run of requests as their caller may have seen it, and the plain machine beside it.
 use Rattle.std.specs.Prelude.{ℕ, ◌<◌, ◌^◌, ◌≡◌, true, List, [], ◌∷◌, length}
 use Rattle.bits.specs.Field.{Bytes}
-use Rattle.paper.specs.declared.Answer.{Answer}
-use Rattle.paper.specs.Tables.{Bank, Tables}
+use Rattle.paper.specs.declared.Bank.{Bank}
+use Rattle.paper.specs.Tables.{Tables}
 use Rattle.paper.specs.Sound.{sound}
-use Rattle.paper.specs.Answers.{Request, Create, Write, Read, Info, Destroy, SetExpiry, Scavenge, report}
+use Rattle.paper.specs.Answers.{Request, Create, Write, Read, Info, Destroy, SetExpiry, Scavenge, Report}
 use Rattle.paper.specs.Requests.{serve}
 use Rattle.paper.specs.Bytes.{headers_length, pages_length, tables_from}
 use Rattle.paper.specs.Service.{serve_bytes, format}
@@ -17,10 +17,10 @@ pub data Asked : Type 0 where
   formats : Asked
   asks : ℕ → List ℕ → Request → Asked
 
--- what a caller asked, and what was then answered and held by the lent page and both tables
+-- what a caller asked, and what was then reported and held by the lent page and both tables
 pub record Seen : Type 0 where
   pub asked : Asked
-  pub answer : Answer
+  pub report : Report
   pub page : List ℕ
   pub headers : List ℕ
   pub pages : List ℕ
@@ -37,9 +37,9 @@ Given Scavenge = Unit {0}
 
 -- the contract of the border that was called, on the bytes before and after
 abbrev pub Allowed : Bank → List ℕ → List ℕ → Seen → Asked → Type 0
-Allowed b headers pages s formats = left s.answer [] s.headers s.pages ≡ format b headers pages
+Allowed b headers pages s formats = left s.report [] s.headers s.pages ≡ format b headers pages
 Allowed b headers pages s (asks now os q) =
-    (now < 2 ^ 32) × Given q × (left s.answer s.page s.headers s.pages ≡ serve_bytes b now os q headers pages)
+    (now < 2 ^ 32) × Given q × (left s.report s.page s.headers s.pages ≡ serve_bytes b now os q headers pages)
 
 -- two tables of the bank's lengths, of bytes
 pub record Buffers (b : Bank) (headers pages : List ℕ) : Type 0 where
@@ -71,13 +71,13 @@ machine_after b headers pages (s ∷ ss) m = machine_after b s.headers s.pages s
 -- a Success tells what the plain machine tells: its number, id, Info's fields and the lent page
 pub record Tells (s : Seen) (m : Told) : Type 0 where
   pub number : m.report.number ≡ 0
-  pub id : m.report.id ≡ (report s.answer).id
-  pub facts : m.report.facts ≡ (report s.answer).facts
+  pub id : m.report.id ≡ s.report.id
+  pub facts : m.report.facts ≡ s.report.facts
   pub page : m.page ≡ s.page
 
 abbrev pub Agreed : Seen → Asked → Plain → Type 0
 Agreed s formats m = Unit {0}
-Agreed s (asks now os q) m = (report s.answer).number ≡ 0 → Tells s (plain now q m)
+Agreed s (asks now os q) m = s.report.number ≡ 0 → Tells s (plain now q m)
 
 abbrev pub AllAgreed : Bank → List ℕ → List ℕ → List Seen → Plain → Type 0
 AllAgreed b headers pages [] m = Unit {0}

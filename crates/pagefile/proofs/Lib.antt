@@ -1,2 +1,1 @@
-mod Sees
 pub mod Unique

@@ -4,15 +4,15 @@
 ghost use Rattle.std.specs.Prelude.{◌≡◌, []};
 ghost use Rattle.paper.specs.Ids.{file_id, page_num};
 ghost use Rattle.paper.specs.Tables.{standard};
-ghost use Rattle.paper.specs.Answers.{Create, Write, Read, Info, Destroy, SetExpiry, Scavenge, report};
+ghost use Rattle.paper.specs.Answers.{Create, Write, Read, Info, Destroy, SetExpiry, Scavenge, report, an_id, facts, counts, no_gift};
 ghost use Rattle.paper.specs.Service.{serve_bytes, format, look_slot};
 ghost use Rattle.pagefile.specs.Seen.{seen, seen_by, numbered, answered, told, counted};
 
-use paper::{Answer, FileId, PageNum};
+use paper::{Facts, FileId, PageNum, Refusal, Swept};
 
 // `pagefile_answer` in C: the number, and on Success the id issued, or 0.
 #[repr(C)]
-#[derive(Clone, Copy)]
+#[derive(Clone, Copy, PartialEq, Eq, Debug)]
 pub struct Answered {
     pub number: u8,
     pub id: u32,
@@ -20,7 +20,7 @@ pub struct Answered {
 
 // `pagefile_facts` in C: the number, and on Success what Info gives.
 #[repr(C)]
-#[derive(Clone, Copy)]
+#[derive(Clone, Copy, PartialEq, Eq, Debug, Default)]
 pub struct Told {
     pub number: u8,
     pub owner: u16,
@@ -31,68 +31,79 @@ pub struct Told {
 
 // `pagefile_swept` in C: the number, and on Success what Scavenge zeroed.
 #[repr(C)]
-#[derive(Clone, Copy)]
+#[derive(Clone, Copy, PartialEq, Eq, Debug, Default)]
 pub struct Counted {
     pub number: u8,
     pub headers: u32,
     pub pages: u32,
 }
 
-fn as_answered(a: Answer) -> Answered
-    ensures { result ≡ answered (report a) }
-{
-    let number = rows::ends::number(a);
-    let Answer::Success(i) = a else {
-        return Answered { number, id: 0 };
-    };
-    Answered { number, id: i.0 }
-}
+impl From<Result<FileId, Refusal>> for Answered {
+    ghost from_gives = { λ a s. s ≡ answered (report an_id a) };
 
-fn as_told(a: Answer) -> Told
-    ensures { result ≡ told (report a) }
-{
-    let number = rows::ends::number(a);
-    let Answer::Told(f) = a else {
-        return Told {
-            number,
-            owner: 0,
-            created: 0,
-            updated: 0,
-            expires: 0,
-        };
-    };
-    Told {
-        number,
-        owner: f.owner,
-        created: f.created,
-        updated: f.updated,
-        expires: f.expires,
+    fn from(a: Result<FileId, Refusal>) -> Answered {
+        Answered {
+            number: paper::number(&a),
+            id: a.map_or(0, |id| id.0),
+        }
     }
 }
 
-fn as_counted(a: Answer) -> Counted
-    ensures { result ≡ counted (report a) }
-{
-    let number = rows::ends::number(a);
-    let Answer::Counted(c) = a else {
-        return Counted {
-            number,
-            headers: 0,
-            pages: 0,
-        };
-    };
-    Counted {
-        number,
-        headers: c.headers,
-        pages: c.pages,
+impl From<Result<(), Refusal>> for Answered {
+    ghost from_gives = { λ a s. s ≡ answered (report no_gift a) };
+
+    fn from(a: Result<(), Refusal>) -> Answered {
+        Answered {
+            number: paper::number(&a),
+            id: 0,
+        }
+    }
+}
+
+impl From<Result<Facts, Refusal>> for Told {
+    ghost from_gives = { λ a s. s ≡ told (report facts a) };
+
+    fn from(a: Result<Facts, Refusal>) -> Told {
+        let number = paper::number(&a);
+        match a {
+            Ok(f) => Told {
+                number,
+                owner: f.owner,
+                created: f.created,
+                updated: f.updated,
+                expires: f.expires,
+            },
+            Err(_) => Told {
+                number,
+                ..Told::default()
+            },
+        }
+    }
+}
+
+impl From<Result<Swept, Refusal>> for Counted {
+    ghost from_gives = { λ a s. s ≡ counted (report counts a) };
+
+    fn from(a: Result<Swept, Refusal>) -> Counted {
+        let number = paper::number(&a);
+        match a {
+            Ok(c) => Counted {
+                number,
+                headers: c.headers,
+                pages: c.pages,
+            },
+            Err(_) => Counted {
+                number,
+                ..Counted::default()
+            },
+        }
     }
 }
 
 pub fn pagefile_format(headers: &mut [u8], pages: &mut [u8]) -> u8
     ensures { seen result [] headers.new pages.new ≡ seen_by numbered (format standard headers.old pages.old) }
 {
-    let a = service::format(headers, pages);
-    rows::ends::number(a)
+    paper::number(&service::format(headers, pages))
 }
 
 pub fn pagefile_create(
@@ -107,7 +118,7 @@ pub fn pagefile_create(
 ) -> Answered
     ensures { seen result page.now headers.new pages.new ≡ seen_by answered (serve_bytes standard time outcomes.now (Create client (page_num number) page.now expires) headers.old pages.old) }
 {
-    let a = service::create(
+    Answered::from(service::create(
         headers,
         pages,
         outcomes,
@@ -116,8 +127,7 @@ pub fn pagefile_create(
         PageNum(number),
         page,
         expires,
-    );
-    as_answered(a)
+    ))
 }
 
 pub fn pagefile_write(
@@ -132,7 +142,7 @@ pub fn pagefile_write(
 ) -> Answered
     ensures { seen result page.now headers.new pages.new ≡ seen_by answered (serve_bytes standard time outcomes.now (Write client (file_id id) (page_num number) page.now) headers.old pages.old) }
 {
-    let a = service::write(
+    Answered::from(service::write(
         headers,
         pages,
         outcomes,
@@ -141,8 +151,7 @@ pub fn pagefile_write(
         FileId(id),
         PageNum(number),
         page,
-    );
-    as_answered(a)
+    ))
 }
 
 pub fn pagefile_read(
@@ -156,7 +165,7 @@ pub fn pagefile_read(
 ) -> Answered
     ensures { seen result page.new headers.new pages.now ≡ seen_by answered (serve_bytes standard time outcomes.now (Read (file_id id) (page_num number) page.old) headers.old pages.now) }
 {
-    let a = service::read(
+    Answered::from(service::read(
         headers,
         pages,
         outcomes,
@@ -164,15 +173,13 @@ pub fn pagefile_read(
         FileId(id),
         PageNum(number),
         page,
-    );
-    as_answered(a)
+    ))
 }
 
 pub fn pagefile_info(headers: &mut [u8], pages: &[u8], outcomes: &[u8], time: u32, id: u32) -> Told
     ensures { seen result [] headers.new pages.now ≡ seen_by told (serve_bytes standard time outcomes.now (Info (file_id id)) headers.old pages.now) }
 {
-    let a = service::info(headers, pages, outcomes, time, FileId(id));
-    as_told(a)
+    Told::from(service::info(headers, pages, outcomes, time, FileId(id)))
 }
 
 pub fn pagefile_destroy(
@@ -185,8 +192,7 @@ pub fn pagefile_destroy(
 ) -> Answered
     ensures { seen result [] headers.new pages.new ≡ seen_by answered (serve_bytes standard time outcomes.now (Destroy client (file_id id)) headers.old pages.old) }
 {
-    let a = service::destroy(headers, pages, outcomes, time, client, FileId(id));
-    as_answered(a)
+    Answered::from(service::destroy(headers, pages, outcomes, time, client, FileId(id)))
 }
 
 pub fn pagefile_set_expiry(
@@ -200,8 +206,7 @@ pub fn pagefile_set_expiry(
 ) -> Answered
     ensures { seen result [] headers.new pages.new ≡ seen_by answered (serve_bytes standard time outcomes.now (SetExpiry client (file_id id) expires) headers.old pages.old) }
 {
-    let a = service::set_expiry(headers, pages, outcomes, time, client, FileId(id), expires);
-    as_answered(a)
+    Answered::from(service::set_expiry(headers, pages, outcomes, time, client, FileId(id), expires))
 }
 
 pub fn pagefile_scavenge(
@@ -212,14 +217,12 @@ pub fn pagefile_scavenge(
 ) -> Counted
     ensures { seen result [] headers.new pages.new ≡ seen_by counted (serve_bytes standard time outcomes.now Scavenge headers.old pages.old) }
 {
-    let a = service::scavenge(headers, pages, outcomes, time);
-    as_counted(a)
+    Counted::from(service::scavenge(headers, pages, outcomes, time))
 }
 
 // The page's slot, 0 for the blank.
 pub fn pagefile_look(headers: &[u8], pages: &[u8], time: u32, id: u32, number: u8) -> u16
     ensures { result ≡ (look_slot standard time (file_id id) (page_num number) headers.now pages.now).0 }
 {
-    let p = service::look_slot(headers, pages, time, FileId(id), PageNum(number));
-    p.0
+    service::look_slot(headers, pages, time, FileId(id), PageNum(number)).0
 }

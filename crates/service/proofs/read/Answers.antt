@@ -1,29 +1,11 @@
--- `read` refuses before all else, or is what the request does on sound tables.
+-- `read` is what the request does on sound tables where nothing is refused before.
 use mathlib.Core.Path.{refl, sym, ◌∙◌}
-use native.Mathlib.Omega.{arith}
-use Rattle.paper.specs.Answers.{lent_page}
 use Rattle.paper.specs.Requests.{well_formed}
-use Rattle.service.proofs.Admission.{page_fits_lem, admitted, refusal_fits, sound_tables}
-use Rattle.service.proofs.Exact.{turned_away, carried_out}
+use Rattle.service.proofs.Exact.{carried_out}
 use Rattle.service.proofs.read.Goals as goal
 
-pub answer_of-requires : goal.answer_of-requires
-answer_of-requires c = refusal_fits _ _ _ _ _ _ _ c.refusal-n.ensures c.if-n-ne0.true
-
-pub returns-then-n-ne0 : goal.returns-then-n-ne0
-unfolding well_formed lent_page
-returns-then-n-ne0 c =
-    turned_away _ _ _ _ _ _ _ c.page_fits-well.ensures _ c.answer_of.result c.refusal-n.ensures c.if-n-ne0.true c.answer_of.ensures
-
-pub read-requires : goal.read-requires
-read-requires c =
-    let none = sym c.refusal-n.ensures ∙ c.if-n-ne0.false in
-    let e = admitted _ _ _ _ _ _ none in
-    let p = page_fits_lem _ _ _ (sym c.page_fits-well.ensures ∙ e.0) in
-    record { sound_tables = sound_tables _ _ _ _ _ _ _ (omega arith) none; outcomes_len = (e.1, p.1, p.0) }
-
 pub returns : goal.returns
-unfolding well_formed lent_page
+unfolding well_formed
 returns c =
-    carried_out _ _ _ _ _ _ _ c.page_fits-well.ensures _ c.read.result _ _ _ c.refusal-n.ensures c.if-n-ne0.false
+    carried_out _ _ _ _ _ _ _ _ _ _ c.admit.ensures c.in_ok-admit.was (sym c.page_fits.ensures ∙ c.if-not-page_fits.false)
     (λ i. (c.type_inv.headers i).fits) c.read.auto.headers (λ i. (c.type_inv.pages i).fits) refl c.read.ensures
