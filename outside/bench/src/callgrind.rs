@@ -108,7 +108,7 @@ fn counts(cell: &Cell, part: &Inclusive) -> Counts {
 /// The library's function for the checks that all requests begin with.
 fn admission(kind: Kind) -> &'static str {
     match kind {
-        Kind::Look => "service::tables_refusal",
-        _ => "service::refusal",
+        Kind::Look => "service::admit_tables",
+        _ => "service::admit",
     }
 }
