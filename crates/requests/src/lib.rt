@@ -153,7 +153,7 @@ pub fn destroy(
 {
     let slot = rows::open(headers, outcomes, time, client, id)?;
     let h = records::header(headers, slot.number);
-    stores::headers::destroy_header(headers, outcomes[1], slot)?;
+    stores::headers::destroy_header(headers, outcomes[1], slot.number)?;
     let mut taken = 2;
     rows::each_page(
         pages,

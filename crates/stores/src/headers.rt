@@ -103,12 +103,12 @@ pub fn create_header(
 }
 
 // Step: zeros over the slot.
-pub fn destroy_header(headers: &mut [u8], outcome: u8, slot: HeaderSlot) -> Result<(), Refusal>
-    requires { length headers.old ≡ headers_length }
-    ensures { done (of_known slot.number result) (hs_from headers.new) ≡ attempt outcome (destroy_header slot.number) (hs_from headers.old) }
+pub fn destroy_header(headers: &mut [u8], outcome: u8, slot: usize) -> Result<(), Refusal>
+    requires { (length headers.old ≡ headers_length) × (1 ≤ slot) × (slot ≤ header_slots) }
+    ensures { done (of_known slot result) (hs_from headers.new) ≡ attempt outcome (destroy_header slot) (hs_from headers.old) }
 {
     allowed(outcome)?;
-    records::zero_header(headers, slot.number);
+    records::zero_header(headers, slot);
     Ok(())
 }
 

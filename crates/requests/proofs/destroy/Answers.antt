@@ -20,7 +20,7 @@ held c = at_slot _ c.in_ok-slot.slot _ c.header-h.ensures
 
 pub destroy_header-requires : goal.destroy_header-requires
 destroy_header-requires c =
-    c.open.auto.headers ∙ c.requires.sound_tables.whole
+    (c.open.auto.headers ∙ c.requires.sound_tables.whole, c.in_ok-slot.slot.within.0, c.in_ok-slot.slot.within.1)
 
 pub returns-in_err-destroy_header : goal.returns-in_err-destroy_header
 returns-in_err-destroy_header c =

@@ -4,4 +4,4 @@ use Rattle.stores.proofs.HeaderSlots.{destroyed}
 use Rattle.stores.proofs.headers.destroy_header.Goals as goal
 
 pub returns : goal.returns
-returns c = goes _ _ c.allowed.ensures c.in_ok-allowed.was (destroyed _ _ _ c.requires c.args.slot.within.0 c.args.slot.within.1 c.zero_header.ensures)
+returns c = goes _ _ c.allowed.ensures c.in_ok-allowed.was (destroyed _ _ _ c.requires.0 c.requires.1 c.requires.2 c.zero_header.ensures)
