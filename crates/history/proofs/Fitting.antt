@@ -7,7 +7,6 @@ use mathlib.Core.List.{List, [], ◌∷◌}
 use native.Mathlib.Omega.{arith}
 use lib.ListN.{length}
 use lib.Dec.{eqb, leb}
-use borrow.Author.Tests.{eqb-true}
 use Rattle.bits.specs.Field.{Bytes}
 use Rattle.bits.specs.Field.Within.{one}
 use Rattle.paper.specs.declared.Bank.{Bank}
@@ -22,19 +21,15 @@ use Rattle.paper.specs.Tables.{Tables, get_page_id, slot_at, with_clock}
 use Rattle.paper.specs.Stores.{read_header, create_page, destroy_page}
 use Rattle.paper.specs.Steps.{Run, on, end, State, step, cleanup, ask, each_page, on_headers, on_pages}
 use Rattle.paper.specs.Answers.{Request, Create, Write, Read, Info, Destroy, SetExpiry, Scavenge, lent_page, Gift, nothing, an_id, facts, counts, contents}
-use Rattle.paper.specs.Requests.{header_in, make_header, put_page_id, set_header_expiry, facts_of, create, write, read, info, destroy, set_expiry, scavenge, steps_of, reply_of, carry_out, page_fits, well_formed}
-use Rattle.paper.proofs.Tests.{right}
+use Rattle.paper.specs.Requests.{header_in, make_header, put_page_id, set_header_expiry, facts_of, create, write, read, info, destroy, set_expiry, scavenge, steps_of, reply_of, carry_out, well_formed}
 use Rattle.records.specs.Fits.{HeaderFits}
 use Rattle.stores.proofs.Slots.{full_slot_fits}
 use Rattle.requests.proofs.Fits.{made_fits, paged_fits, expiring_fits}
+use Rattle.service.proofs.Admission.{page_fits_lem}
 use Rattle.history.specs.History.{Given}
 use Rattle.plain.proofs.Logic.{Ends}
 use Rattle.history.proofs.Keeping.{Keeping, Any, ◌>>=◌, ◌>>◌, keeps_give, keeps_ask, keeps_either, keeps_check, keeps_each}
 use Rattle.history.proofs.Ranges.{Fit, header_fits, replace_fits, create_fits, read_fits, destroy_fits, scavenge_fits, create_page_fits, read_page_fits, destroy_page_fits, expiry_fits, scavenge_pages_fits, clocked_fits, on_headers_lem, at_header, on_pages_lem, after_pages}
-
-page_length : (b : Bank) (number : PageNum) (page : List ℕ) → page_fits b number page ≡ true → length page ≡ b.size
-unfolding page_fits
-page_length b number page e = eqb-true (length page) b.size (right (leb number.0 15) (eqb (length page) b.size) e)
 
 expiry_small : (h : Header) → HeaderFits h → h.expires < 2 ^ 32
 expiry_small h (one u (one i (one o (one c (one d (one e r)))))) = e
@@ -134,8 +129,8 @@ module _ (b : Bank) (few : b.slots ≤ 511) (now : ℕ) (time : now < 2 ^ 32) wh
 
   steps_fitting : (q : Request) → Given q → well_formed b q ≡ true → Keeping (Fit b) (steps_of b now q) Any
   unfolding steps_of well_formed
-  steps_fitting (Create client number page expires) g w = create_fitting client number page g.1 (page_length b number page w) expires g.0 g.2
-  steps_fitting (Write client id number page) g w = write_fitting client number page g.1 (page_length b number page w) id
+  steps_fitting (Create client number page expires) g w = create_fitting client number page g.1 (page_fits_lem b number page w).1 expires g.0 g.2
+  steps_fitting (Write client id number page) g w = write_fitting client number page g.1 (page_fits_lem b number page w).1 id
   steps_fitting (Read id number lent) g w = read_fitting id number
   steps_fitting (Info id) g w = info_fitting id
   steps_fitting (Destroy client id) g w = destroy_fitting client id

@@ -1,1 +1,2 @@
+pub mod Sees
 pub mod Unique

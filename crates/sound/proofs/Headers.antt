@@ -134,6 +134,9 @@ pub record Gathered (b : Bank) (c : Control) (ps : PS) (seen₀ : List Bool) (hs
   pub pass : all_pass b c ps seen (drop (n - 1) hs) ≡ all_pass b c ps seen₀ hs
   pub names : take count ids ++ ids_in_use (drop (n - 1) hs) ≡ ids_in_use hs
 
+pub gather_starts : (b : Bank) (c : Control) (ps : PS) (seen : List Bool) (hs : List Header) (ids : List ℕ) → Gathered b c ps seen hs 1 seen ids 0
+gather_starts b c ps seen hs ids = record { few = omega arith; pass = refl; names = refl }
+
 module _ {b : Bank} {c : Control} {ps : PS} {seen₀ : List Bool} {hs : List Header} {n : ℕ} {seen : List Bool} {ids : List ℕ} {count : ℕ} (g : Gathered b c ps seen₀ hs n seen ids count) where
   pub gather_ends : length hs < n → (all_pass b c ps seen₀ hs ≡ true) × (take count ids ≡ ids_in_use hs)
   unfolding all_pass

@@ -53,6 +53,9 @@ pub record Walked (f : PageId → Bool) (ids : List PageId) (seen₀ : List Bool
   pub found : good && once f seen (drop k ids) ≡ once f seen₀ ids
   pub map : marked seen (ids_of (drop k ids)) ≡ marked seen₀ (ids_of ids)
 
+pub walk_starts : (f : PageId → Bool) (ids : List PageId) (seen : List Bool) → Walked f ids seen 0 seen true
+walk_starts f ids seen = record { found = refl; map = refl }
+
 module _ {f : PageId → Bool} {ids : List PageId} {seen₀ : List Bool} {k : ℕ} {seen : List Bool} {good : Bool} (w : Walked f ids seen₀ k seen good) where
   pub walk_ends : length ids ≤ k → (good ≡ once f seen₀ ids) × (seen ≡ marked seen₀ (ids_of ids))
   unfolding once marked

@@ -2,7 +2,7 @@
 -- Assumes nothing.
 use Prim.Native.Nat.{ℕ, zero, suc, ◌+◌, ◌-◌, ◌<◌, ◌≤◌}
 use mathlib.Core.Path.{◌≡◌, refl, sym, ap, ap₂, ◌∙◌, subst}
-use mathlib.Core.Bool.{Bool, true, false, ◌&&◌, and-false}
+use mathlib.Core.Bool.{Bool, true, false, not, ◌&&◌, and-false}
 use mathlib.Core.List.{List, [], ◌∷◌}
 use native.Mathlib.Omega.{arith}
 use borrow.Author.Tests.{ne_eqb, eqb-true, eqb-false}
@@ -10,6 +10,7 @@ use denote.Param.Members.{Mut}
 use lib.Bits.{bit_or, or_add_and, and_le_l, and_le_r, or_zero_l}
 use lib.ListN.{length, drop, get_or, drop_of_length-le}
 use lib.Seq.{drop-cons}
+use lib.Dec.{eqb}
 use Rattle.std.specs.Prelude.{Option}
 use Rattle.std.specs.Bool.{MatchBool}
 use Rattle.std.specs.Fn.{Called}
@@ -20,7 +21,7 @@ use Rattle.std.specs.declared.ops.Range.{Range}
 use Rattle.std.proofs.iter.Yields.{nat_range_steps}
 use Rattle.std.proofs.lemmas.Iterator.{YieldsList-from_range, cases_from_all}
 use Rattle.std.proofs.lemmas.List.FromFn.{length-range_with_len, get_or-range_with_len}
-use Rattle.paper.specs.Lists.{all, is_zero, numbered}
+use Rattle.paper.specs.Lists.{all, absent, is_zero, numbered}
 
 -- an or is 0 where both are
 pub or_zero : (a b : ℕ) → is_zero (bit_or a b) ≡ is_zero a && is_zero b
@@ -29,6 +30,13 @@ or_zero a b = go (is_zero a) refl
     go : (t : Bool) → is_zero a ≡ t → is_zero (bit_or a b) ≡ t && is_zero b
     go true e = rw (eqb-true a 0 e, or_zero_l)
     go false e = ne_eqb _ _ (λ (z : bit_or a b ≡ 0). eqb-false a 0 e (omega (arith, or_add_and a b, and_le_l a b, and_le_r a b)))
+
+abbrev pub other : ℕ → ℕ → Bool
+other x y = not (eqb x y)
+
+pub absent_all : (x : ℕ) (ys : List ℕ) → absent x ys ≡ all (other x) ys
+absent_all x [] = refl
+absent_all x (y ∷ ys) = ap (λ (b : Bool). other x y && b) (absent_all x ys)
 
 -- from number n on: that one, and those from the next on
 pub from_number : {A : Type 0} (d : A) (xs : List A) (n : ℕ) → 1 ≤ n → n ≤ length xs → drop (n - 1) xs ≡ numbered d xs n ∷ drop (n + 1 - 1) xs

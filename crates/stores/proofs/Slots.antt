@@ -3,11 +3,11 @@
 use Prim.Native.Nat.{ℕ, zero, suc, ◌+◌, ◌-◌, ◌*◌, ◌^◌, ◌<◌, ◌≤◌}
 use mathlib.Core.Path.{◌≡◌, refl, sym, ap, ap₂, ◌∙◌}
 use mathlib.Core.Bool.{true}
-use mathlib.Core.List.{List, [], ◌∷◌}
+use mathlib.Core.List.{List, [], ◌∷◌, ◌++◌, append-nil}
 use native.Mathlib.Nat.{mul-le-mul_right, suc-mul}
 use native.Mathlib.Omega.{arith}
-use lib.ListN.{length, take, drop, replicate, length-map, length-drop, length-replicate, replicate-append-replicate}
-use lib.Seq.{length-take-le}
+use lib.ListN.{length, take, drop, replicate, length-map, length-drop, length-replicate, replicate-append-replicate, drop_of_length-le}
+use lib.Seq.{length-take-le, take-length}
 use Rattle.bits.specs.Field.{pack, splice, Bytes}
 use Rattle.bits.specs.Field.Within.{none, one}
 use Rattle.bits.proofs.Within.{within_head, within_tail, within_test}
@@ -77,7 +77,7 @@ module _ {b : Bank} {xs : List ℕ} (g : Geometry b xs) (n : ℕ) (lo : 1 ≤ n)
   put : (s : Slot) → SlotFits b s → ps_from b (splice a (slot_bytes s) xs) ≡ put_slot (page_id n) s (ps_from b xs)
   put s f = slot_put b xs g.whole n lo hi s f
 
-  zeroed : ps_from b (splice a (replicate (8 + b.size) 0) xs) ≡ put_slot (page_id n) (no_slot b) (ps_from b xs)
+  pub zeroed : ps_from b (splice a (replicate (8 + b.size) 0) xs) ≡ put_slot (page_id n) (no_slot b) (ps_from b xs)
   zeroed = ap (λ (l : List ℕ). ps_from b (splice a l xs)) (sym (no_slot_bytes b)) ∙ put (no_slot b) (no_slot_fits b)
 
   length_part : length (take (8 + b.size) (drop a xs)) ≡ 8 + b.size
@@ -86,6 +86,13 @@ module _ {b : Bank} {xs : List ℕ} (g : Geometry b xs) (n : ℕ) (lo : 1 ≤ n)
   pub length_contents : length (slot_from (take (8 + b.size) (drop a xs))).contents ≡ b.size
   unfolding slot_from
   length_contents = length-drop 8 (take (8 + b.size) (drop a xs)) ∙ omega (arith, length_part)
+
+  -- a lent page as long as the contents, after they are copied over it
+  pub copied : (page lent : List ℕ) → page ≡ (slot_from (take (8 + b.size) (drop a xs))).contents → length lent ≡ b.size
+      → take (length page) page ++ drop (length page) lent ≡ (slot_at b (ps_from b xs) (page_id n)).contents
+  copied page lent e l =
+      let short : length lent ≤ length page = omega (arith, ap length e, length_contents) in
+      rw (take-length, drop_of_length-le lent short, append-nil) (e ∙ ap (λ (s : Slot). s.contents) (sym (slot_place b xs n lo hi)))
 
   -- what each step that writes the slot leaves
   module _ {ys : List ℕ} where

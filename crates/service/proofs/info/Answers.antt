@@ -7,5 +7,5 @@ use Rattle.service.proofs.info.Goals as goal
 pub returns : goal.returns
 unfolding well_formed
 returns c =
-    carried_out _ _ _ _ _ _ _ _ _ _ c.admit.ensures c.in_ok-admit.was refl
+    carried_out _ _ _ _ _ _ _ _ _ _ _ c.admit.ensures c.in_ok-admit.was refl
     (λ i. (c.type_inv.headers i).fits) c.info.auto.headers (λ i. (c.type_inv.pages i).fits) refl c.info.ensures

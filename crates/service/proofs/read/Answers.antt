@@ -7,5 +7,5 @@ use Rattle.service.proofs.read.Goals as goal
 pub returns : goal.returns
 unfolding well_formed
 returns c =
-    carried_out _ _ _ _ _ _ _ _ _ _ c.admit.ensures c.in_ok-admit.was (sym c.page_fits.ensures ∙ c.if-not-page_fits.false)
+    carried_out _ _ _ _ _ _ _ _ _ _ _ c.admit.ensures c.in_ok-admit.was (sym c.page_fits.ensures ∙ c.if-not-page_fits.false)
     (λ i. (c.type_inv.headers i).fits) c.read.auto.headers (λ i. (c.type_inv.pages i).fits) refl c.read.ensures
